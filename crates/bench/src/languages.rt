@@ -56,12 +56,30 @@ pub fn hostile_language(
 ) -> Result<Language<Filters, HostileTags, HostileBlocks>, AllocError>
     ensures { IfOk result (λ l. (l.filters ≡ the_filters) × (l.tags ≡ hostile_tags) × (l.blocks ≡ hostile_blocks)) }
 {
+    Ok(Language {
+        filters: filters(alloc)?,
+        tags: malicious_tags(alloc)?,
+        blocks: malicious_blocks(alloc)?,
+    })
+}
+
+/// Returns the plain tags, and the malicious ones.
+fn malicious_tags(alloc: Global) -> Result<PluginRegistry<HostileTags>, AllocError>
+    ensures { IfOk result (λ tags. tags ≡ hostile_tags) }
+{
     let mut tags = PluginRegistry::new(alloc);
     tags.register("set", HostileTags::Plain(Tags::Set))?;
     tags.register("inc", HostileTags::Plain(Tags::Inc))?;
     tags.register("brk", HostileTags::Plain(Tags::Brk))?;
     tags.register("spin", HostileTags::Spin)?;
     tags.register("mute", HostileTags::Mute)?;
+    Ok(tags)
+}
+
+/// Returns the plain blocks, and the malicious ones.
+fn malicious_blocks(alloc: Global) -> Result<PluginRegistry<HostileBlocks>, AllocError>
+    ensures { IfOk result (λ blocks. blocks ≡ hostile_blocks) }
+{
     let mut blocks = PluginRegistry::new(alloc);
     blocks.register("box", HostileBlocks::Plain(Blocks::Box))?;
     blocks.register("sbox", HostileBlocks::Plain(Blocks::Sbox))?;
@@ -71,11 +89,7 @@ pub fn hostile_language(
     blocks.register("glob", HostileBlocks::Plain(Blocks::Glob))?;
     blocks.register("far", HostileBlocks::Far)?;
     blocks.register("b", HostileBlocks::Odd)?;
-    Ok(Language {
-        filters: filters(alloc)?,
-        tags,
-        blocks,
-    })
+    Ok(blocks)
 }
 
 /// Returns the filters of each language.

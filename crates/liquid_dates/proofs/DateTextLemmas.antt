@@ -1,5 +1,50 @@
 -- The readers of date texts read what the forms relate, and nothing else.
-use Rattle.std.proofs.Common.{◌≡◌, ◌⊎◌, inl, inr, ℕ, zero, suc, ◌+◌, ◌-◌, ◌*◌, ◌/◌, ◌%◌, ◌<◌, ◌≤◌, Bool, true, false, cond, ◌&&◌, List, [], ◌∷◌, ◌++◌, length, take, drop, refl, sym, ap, ◌∙◌, arith, eqb, Option, Some, None, option_map, nat_lt, append_assoc, append-nil, ℤ, pos, neg_ℤ, subst, unwrap_or}
+use Rattle.std.proofs.Common.{
+  ◌≡◌,
+  ◌⊎◌,
+  inl,
+  inr,
+  ℕ,
+  zero,
+  suc,
+  ◌+◌,
+  ◌-◌,
+  ◌*◌,
+  ◌/◌,
+  ◌%◌,
+  ◌<◌,
+  ◌≤◌,
+  Bool,
+  true,
+  false,
+  cond,
+  ◌&&◌,
+  List,
+  [],
+  ◌∷◌,
+  ◌++◌,
+  length,
+  take,
+  drop,
+  refl,
+  sym,
+  ap,
+  ◌∙◌,
+  arith,
+  eqb,
+  Option,
+  Some,
+  None,
+  option_map,
+  nat_lt,
+  append_assoc,
+  append-nil,
+  ℤ,
+  pos,
+  neg_ℤ,
+  subst,
+  unwrap_or,
+}
 use Rattle.std.specs.Option.{option_and_then}
 use Rattle.std.specs.Str.{bytes_eq}
 use Rattle.std.proofs.lemmas.Bool.{eqb-true}
@@ -11,7 +56,27 @@ use Rattle.liquid_dates.specs.meaning.Names.{month_name, short_month_name, weekd
 use Rattle.liquid_dates.specs.meaning.Printed.{two_digits, four_digits}
 use Rattle.liquid_dates.specs.meaning.Pattern.{begins}
 use Rattle.liquid_dates.proofs.PairForms.{joined, two_below, year_form, month_form, weekday_form, dashed, day_month, slashed, clock}
-use Rattle.liquid_dates.specs.steps.DateReader.{Read, after_byte, two_at, four_at, year_after, year_at, joined_at, whole_of, find_name, short_name_at, following_text, month_at, short_month_at, weekday_at, dashed_at, long_at, short_at, slashed_at, clock_at}
+use Rattle.liquid_dates.specs.steps.DateReader.{
+  Read,
+  after_byte,
+  two_at,
+  four_at,
+  year_after,
+  year_at,
+  joined_at,
+  whole_of,
+  find_name,
+  short_name_at,
+  following_text,
+  month_at,
+  short_month_at,
+  weekday_at,
+  dashed_at,
+  long_at,
+  short_at,
+  slashed_at,
+  clock_at,
+}
 
 -- a reader reads a form: what it reads has that form, and a text of that form is read before a rest that does not begin
 -- with a digit
@@ -34,7 +99,8 @@ some_pair a b s t o p e f g =
     (ap (value_or a) same, ap (rest_or s) same)
 
 -- what a step of a reader took
-pub bind_some : {A B : Type 0} (o : Option A) (f : A → Option B) (b : B) → option_and_then f o ≡ Some b → (a : A) × (o ≡ Some a) × (f a ≡ Some b)
+pub bind_some : {A B : Type 0} (o : Option A) (f : A → Option B) (b : B) → option_and_then f o ≡ Some b → (a : A) × (o ≡ Some a)
+    × (f a ≡ Some b)
 bind_some None f b e = cc
 bind_some (Some a) f b e = (a, refl, e)
 
@@ -56,10 +122,14 @@ pub after_byte_here : (byte : ℕ) (rest : List ℕ) → after_byte byte (byte �
 after_byte_here byte rest = let same : eqb byte byte ≡ true = grind (arith, nat_tests) in rw same refl
 
 -- two digits
-two_value : (a b limit : ℕ) (t : Bool) → (is_digit a && (is_digit b && nat_lt (10 * (a - 48) + (b - 48)) limit)) ≡ true → (10 * (a - 48) + (b - 48) < limit) × (a ≡ 48 + (10 * (a - 48) + (b - 48)) / 10) × (b ≡ 48 + (10 * (a - 48) + (b - 48)) % 10)
+two_value : (a b limit : ℕ) (t : Bool) → (is_digit a && (is_digit b && nat_lt (10 * (a - 48) + (b - 48)) limit)) ≡ true
+    → (10 * (a - 48) + (b - 48) < limit) × (a ≡ 48 + (10 * (a - 48) + (b - 48)) / 10) × (b ≡ 48 + (10 * (a - 48) + (b - 48)) % 10)
 two_value a b limit t e = (grind (arith, nat_tests), grind (arith, nat_tests), grind (arith, nat_tests))
 
-two_sound_test : (limit a b n : ℕ) (cs rest : List ℕ) (t : Bool) → (is_digit a && (is_digit b && nat_lt (10 * (a - 48) + (b - 48)) limit)) ≡ t → cond {A = Read ℕ} t (Some (10 * (a - 48) + (b - 48), cs)) None ≡ Some (n, rest) → (front : List ℕ) × (a ∷ b ∷ cs ≡ front ++ rest) × two_below limit front n
+two_sound_test : (limit a b n : ℕ) (cs rest : List ℕ) (t : Bool)
+    → (is_digit a && (is_digit b && nat_lt (10 * (a - 48) + (b - 48)) limit)) ≡ t
+    → cond {A = Read ℕ} t (Some (10 * (a - 48) + (b - 48), cs)) None ≡ Some (n, rest) → (front : List ℕ) × (a ∷ b ∷ cs ≡ front ++ rest)
+    × two_below limit front n
 two_sound_test limit a b n cs rest false t e = cc
 two_sound_test limit a b n cs rest true t e =
     let v = two_value a b limit true t in
@@ -77,7 +147,8 @@ two_at_digits limit n rest h l =
     let test : (is_digit (48 + n / 10) && (is_digit (48 + n % 10) && nat_lt n limit)) ≡ true = grind (arith, nat_tests) in
     rw (value, test) refl
 
-pub two_sound : (limit : ℕ) (text : List ℕ) (n : ℕ) (rest : List ℕ) → two_at limit text ≡ Some (n, rest) → (front : List ℕ) × (text ≡ front ++ rest) × two_below limit front n
+pub two_sound : (limit : ℕ) (text : List ℕ) (n : ℕ) (rest : List ℕ) → two_at limit text ≡ Some (n, rest) → (front : List ℕ)
+    × (text ≡ front ++ rest) × two_below limit front n
 unfolding two_at
 two_sound limit [] n rest e = cc
 two_sound limit (a ∷ []) n rest e = cc
@@ -90,7 +161,9 @@ two_reads limit h = record {
 }
 
 -- a form, a byte that is not a digit, and a form after it
-joined_sound : {A B : Type 0} (F : List ℕ → A → Type 0) (r : List ℕ → Read A) (byte : ℕ) (G : List ℕ → B → Type 0) (q : List ℕ → Read B) → Reads F r → Reads G q → (text : List ℕ) (a : A) (b : B) (rest : List ℕ) → joined_at r byte q text ≡ Some ((a, b), rest) → (front : List ℕ) × (text ≡ front ++ rest) × joined F byte G front (a, b)
+joined_sound : {A B : Type 0} (F : List ℕ → A → Type 0) (r : List ℕ → Read A) (byte : ℕ) (G : List ℕ → B → Type 0) (q : List ℕ → Read B)
+    → Reads F r → Reads G q → (text : List ℕ) (a : A) (b : B) (rest : List ℕ) → joined_at r byte q text ≡ Some ((a, b), rest)
+    → (front : List ℕ) × (text ≡ front ++ rest) × joined F byte G front (a, b)
 joined_sound {A = A} {B = B} F r byte G q hf hg text a b rest e =
     let (x, ex, e1) = bind_some (r text) _ _ e in
     let (more, em, e2) = bind_some (after_byte byte x.1) _ _ e1 in
@@ -102,7 +175,8 @@ joined_sound {A = A} {B = B} F r byte G q hf hg text a b rest e =
     let (back, is₂, g) = hg.sound more y.0 y.1 ey in
     let between = after_byte_is byte x.1 more em in (
       front ++ (byte ∷ back),
-      is ∙ ap (λ t. front ++ t) (between ∙ ap (λ t. byte ∷ t) (is₂ ∙ ap (λ t. back ++ t) last)) ∙ sym (append_assoc front (byte ∷ back) rest),
+      is ∙ ap (λ t. front ++ t) (between ∙ ap (λ t. byte ∷ t) (is₂ ∙ ap (λ t. back ++ t) last))
+          ∙ sym (append_assoc front (byte ∷ back) rest),
       (front, back, refl, subst (λ (v : A). F front v) first f, subst (λ (v : B). G back v) second g),
     )
   where
@@ -118,19 +192,23 @@ joined_sound {A = A} {B = B} F r byte G q hf hg text a b rest e =
     pair_rest other None = other
     pair_rest other (Some p) = p.1
 
-joined_complete : {A B : Type 0} (F : List ℕ → A → Type 0) (r : List ℕ → Read A) (byte : ℕ) (G : List ℕ → B → Type 0) (q : List ℕ → Read B) → Reads F r → Reads G q → is_digit byte ≡ false → (front : List ℕ) (a : A) (b : B) (rest : List ℕ) → joined F byte G front (a, b) → begins is_digit rest ≡ false → joined_at r byte q (front ++ rest) ≡ Some ((a, b), rest)
+joined_complete : {A B : Type 0} (F : List ℕ → A → Type 0) (r : List ℕ → Read A) (byte : ℕ) (G : List ℕ → B → Type 0)
+    (q : List ℕ → Read B) → Reads F r → Reads G q → is_digit byte ≡ false → (front : List ℕ) (a : A) (b : B) (rest : List ℕ)
+    → joined F byte G front (a, b) → begins is_digit rest ≡ false → joined_at r byte q (front ++ rest) ≡ Some ((a, b), rest)
 joined_complete F r byte G q hf hg apart front a b rest (s, u, is, f, g) ends =
     let text : front ++ rest ≡ s ++ (byte ∷ (u ++ rest)) = rw is (append_assoc s (byte ∷ u) rest) in
     rw (text, hf.complete s a (byte ∷ (u ++ rest)) f apart, after_byte_here byte (u ++ rest), hg.complete u b rest g ends) refl
 
-pub joined_reads : {A B : Type 0} (F : List ℕ → A → Type 0) (r : List ℕ → Read A) (byte : ℕ) (G : List ℕ → B → Type 0) (q : List ℕ → Read B) → Reads F r → Reads G q → is_digit byte ≡ false → Reads (joined F byte G) (joined_at r byte q)
+pub joined_reads : {A B : Type 0} (F : List ℕ → A → Type 0) (r : List ℕ → Read A) (byte : ℕ) (G : List ℕ → B → Type 0)
+    (q : List ℕ → Read B) → Reads F r → Reads G q → is_digit byte ≡ false → Reads (joined F byte G) (joined_at r byte q)
 joined_reads F r byte G q hf hg apart = record {
   sound = λ text p rest e. joined_sound F r byte G q hf hg text p.0 p.1 rest e;
   complete = λ front p rest f ends. joined_complete F r byte G q hf hg apart front p.0 p.1 rest f ends;
 }
 
 -- a whole text
-pub whole_sound : {A : Type 0} (F : List ℕ → A → Type 0) (r : List ℕ → Read A) → Reads F r → (text : List ℕ) (a : A) → whole_of (r text) ≡ Some a → F text a
+pub whole_sound : {A : Type 0} (F : List ℕ → A → Type 0) (r : List ℕ → Read A) → Reads F r → (text : List ℕ) (a : A)
+    → whole_of (r text) ≡ Some a → F text a
 whole_sound {A = A} F r h text a e = by_cases (r text) refl e
   where
     by_cases : (o : Read A) → r text ≡ o → whole_of o ≡ Some a → F text a
@@ -141,7 +219,8 @@ whole_sound {A = A} F r h text a e = by_cases (r text) refl e
         let same : x ≡ a = cc in
         subst (λ (v : A). F text v) same (subst (λ (s : List ℕ). F s x) (sym (is ∙ append-nil front)) f)
 
-pub whole_complete : {A : Type 0} (F : List ℕ → A → Type 0) (r : List ℕ → Read A) → Reads F r → (text : List ℕ) (a : A) → F text a → whole_of (r text) ≡ Some a
+pub whole_complete : {A : Type 0} (F : List ℕ → A → Type 0) (r : List ℕ → Read A) → Reads F r → (text : List ℕ) (a : A) → F text a
+    → whole_of (r text) ≡ Some a
 whole_complete F r h text a f =
     let read : r (text ++ []) ≡ Some (a, []) = h.complete text a [] f refl in
     ap whole_of (ap r (sym (append-nil text)) ∙ read)
@@ -150,7 +229,8 @@ whole_complete F r h text a f =
 abbrev four_form : List ℕ → ℕ → Type 0
 four_form text n = (n < 10000) × (text ≡ four_digits n)
 
-four_sound : (text : List ℕ) (n : ℕ) (rest : List ℕ) → four_at text ≡ Some (n, rest) → (front : List ℕ) × (text ≡ front ++ rest) × four_form front n
+four_sound : (text : List ℕ) (n : ℕ) (rest : List ℕ) → four_at text ≡ Some (n, rest) → (front : List ℕ) × (text ≡ front ++ rest)
+    × four_form front n
 unfolding four_at
 four_sound text n rest e =
     let (x, ex, e1) = bind_some (two_at 100 text) _ _ e in
@@ -172,13 +252,21 @@ four_sound text n rest e =
 pub four_at_digits : (n : ℕ) (rest : List ℕ) → n < 10000 → four_at (four_digits n ++ rest) ≡ Some (n, rest)
 unfolding four_at
 four_at_digits n rest h =
-    let text : four_digits n ++ rest ≡ two_digits (n / 100) ++ (two_digits (n % 100) ++ rest) = append_assoc (two_digits (n / 100)) (two_digits (n % 100)) rest in
+    let text : four_digits n ++ rest ≡ two_digits (n / 100) ++ (two_digits (n % 100) ++ rest) =
+    append_assoc (two_digits (n / 100)) (two_digits (n % 100)) rest in
     let century : n / 100 < 100 = omega arith in
     let year : n % 100 < 100 = omega arith in
     let value : 100 * (n / 100) + n % 100 ≡ n = omega arith in
-    rw (text, two_at_digits 100 (n / 100) (two_digits (n % 100) ++ rest) (omega arith) century, two_at_digits 100 (n % 100) rest (omega arith) year, value) refl
+    rw (
+      text,
+      two_at_digits 100 (n / 100) (two_digits (n % 100) ++ rest) (omega arith) century,
+      two_at_digits 100 (n % 100) rest
+          (omega arith) year,
+      value,
+    ) refl
 
-year_sound : (text : List ℕ) (o : Option (List ℕ)) → after_byte 45 text ≡ o → (y : ℤ) (rest : List ℕ) → year_after o text ≡ Some (y, rest) → (front : List ℕ) × (text ≡ front ++ rest) × year_form front y
+year_sound : (text : List ℕ) (o : Option (List ℕ)) → after_byte 45 text ≡ o → (y : ℤ) (rest : List ℕ)
+    → year_after o text ≡ Some (y, rest) → (front : List ℕ) × (text ≡ front ++ rest) × year_form front y
 year_sound text None t y rest e =
     let (x, ex, e1) = map_some (four_at text) _ _ e in
     let (s, is, f) = four_sound text x.0 x.1 ex in
@@ -187,8 +275,11 @@ year_sound text None t y rest e =
 year_sound text (Some following) t y rest e =
     let (x, ex, e1) = map_some (four_at following) _ _ e in
     let (s, is, f) = four_sound following x.0 x.1 ex in
-    let pair = some_pair (neg_ℤ (pos x.0)) y x.1 rest (Some (neg_ℤ (pos x.0), x.1)) (Some (y, rest)) refl refl (ap Some e1) in
-    (45 ∷ s, after_byte_is 45 text following t ∙ ap (λ t. 45 ∷ t) (is ∙ ap (λ t. s ++ t) pair.1), (x.0, f.0, inr (ap (λ t. 45 ∷ t) f.1, sym pair.0)))
+    let pair = some_pair (neg_ℤ (pos x.0)) y x.1 rest (Some (neg_ℤ (pos x.0), x.1)) (Some (y, rest)) refl refl (ap Some e1) in (
+      45 ∷ s,
+      after_byte_is 45 text following t ∙ ap (λ t. 45 ∷ t) (is ∙ ap (λ t. s ++ t) pair.1),
+      (x.0, f.0, inr (ap (λ t. 45 ∷ t) f.1, sym pair.0)),
+    )
 
 pub year_reads : Reads year_form year_at
 unfolding year_at
@@ -197,7 +288,8 @@ year_reads = record {
   complete = λ front y rest f ends. year_complete front y rest f.0 f.1 f.2;
 }
   where
-    year_complete : (front : List ℕ) (y : ℤ) (rest : List ℕ) (n : ℕ) → n < 10000 → ((front ≡ four_digits n) × (y ≡ pos n)) ⊎ ((front ≡ 45 ∷ four_digits n) × (y ≡ neg_ℤ (pos n))) → year_at (front ++ rest) ≡ Some (y, rest)
+    year_complete : (front : List ℕ) (y : ℤ) (rest : List ℕ) (n : ℕ) → n < 10000 → ((front ≡ four_digits n) × (y ≡ pos n)) ⊎
+        ((front ≡ 45 ∷ four_digits n) × (y ≡ neg_ℤ (pos n))) → year_at (front ++ rest) ≡ Some (y, rest)
     year_complete front y rest n h (inl (is, value)) =
         let plain : eqb (48 + n / 100 / 10) 45 ≡ false = grind (arith, nat_tests) in
         rw (is, value, plain, four_at_digits n rest h) refl
@@ -209,13 +301,16 @@ unfolding find_name
 find_some name front zero m k e = cc
 find_some name front (suc n) m k e = by_test (find_some name front n (m + 1) k) (bytes_eq (name m) front) refl e
   where
-    by_test : (find_name name front n (m + 1) ≡ Some k → (m + 1 ≤ k) × (k < m + 1 + n) × (name k ≡ front)) → (b : Bool) → bytes_eq (name m) front ≡ b → cond b (Some m) (find_name name front n (m + 1)) ≡ Some k → (m ≤ k) × (k < m + suc n) × (name k ≡ front)
+    by_test : (find_name name front n (m + 1) ≡ Some k → (m + 1 ≤ k) × (k < m + 1 + n) × (name k ≡ front)) → (b : Bool)
+        → bytes_eq (name m) front ≡ b → cond b (Some m) (find_name name front n (m + 1)) ≡ Some k → (m ≤ k) × (k < m + suc n)
+        × (name k ≡ front)
     by_test next true t e =
         let same : m ≡ k = ap (λ (o : Option ℕ). unwrap_or o m) e in
         (omega arith, omega arith, ap name (sym same) ∙ (bytes_eq-Decides (name m) front).0 t)
     by_test next false t e = let later = next e in (omega arith, omega arith, later.2)
 
-short_name_sound : (name : ℕ → List ℕ) (count m : ℕ) (text : List ℕ) (k : ℕ) (rest : List ℕ) → short_name_at name count m text ≡ Some (k, rest) → (text ≡ name k ++ rest) × (m ≤ k) × (k < m + count)
+short_name_sound : (name : ℕ → List ℕ) (count m : ℕ) (text : List ℕ) (k : ℕ) (rest : List ℕ)
+    → short_name_at name count m text ≡ Some (k, rest) → (text ≡ name k ++ rest) × (m ≤ k) × (k < m + count)
 unfolding short_name_at
 short_name_sound name count m [] k rest e = cc
 short_name_sound name count m (a ∷ []) k rest e = cc
@@ -223,8 +318,11 @@ short_name_sound name count m (a ∷ b ∷ []) k rest e = cc
 short_name_sound name count m (a ∷ b ∷ c ∷ cs) k rest e =
     let (j, ej, e1) = map_some (find_name name (a ∷ b ∷ c ∷ []) count m) _ _ e in
     let found = find_some name (a ∷ b ∷ c ∷ []) count m j ej in
-    let pair = some_pair j k cs rest (Some (j, cs)) (Some (k, rest)) refl refl (ap Some e1) in
-    (ap (λ t. t ++ cs) (sym found.2) ∙ ap (λ i. name i ++ cs) pair.0 ∙ ap (λ t. name k ++ t) pair.1, omega (arith, pair.0), omega (arith, pair.0))
+    let pair = some_pair j k cs rest (Some (j, cs)) (Some (k, rest)) refl refl (ap Some e1) in (
+      ap (λ t. t ++ cs) (sym found.2) ∙ ap (λ i. name i ++ cs) pair.0 ∙ ap (λ t. name k ++ t) pair.1,
+      omega (arith, pair.0),
+      omega (arith, pair.0),
+    )
 
 short_month_here : (m : ℕ) (rest : List ℕ) → 1 ≤ m → m ≤ 12 → short_month_at (short_month_name m ++ rest) ≡ Some (m, rest)
 unfolding short_name_at find_name short_month_name month_name
@@ -273,13 +371,21 @@ weekday_here (suc (suc (suc (suc (suc (suc (suc w))))))) rest h = absurd (omega 
 
 pub short_month_reads : Reads (month_form short_month_name) short_month_at
 short_month_reads = record {
-  sound = λ text m rest e. let s = short_name_sound short_month_name 12 1 text m rest e in (short_month_name m, s.0, ((s.1, omega (arith, s.2)), refl));
+  sound = λ text m rest e. let s = short_name_sound short_month_name 12 1 text m rest e in (
+    short_month_name m,
+    s.0,
+    ((s.1, omega (arith, s.2)), refl),
+  );
   complete = λ front m rest f ends. rw f.1 (short_month_here m rest f.0.0 f.0.1);
 }
 
 pub weekday_reads : Reads weekday_form weekday_at
 weekday_reads = record {
-  sound = λ text w rest e. let s = short_name_sound short_weekday_name 7 0 text w rest e in (short_weekday_name w, s.0, (omega (arith, s.2), refl));
+  sound = λ text w rest e. let s = short_name_sound short_weekday_name 7 0 text w rest e in (
+    short_weekday_name w,
+    s.0,
+    (omega (arith, s.2), refl),
+  );
   complete = λ front w rest f ends. rw f.1 (weekday_here w rest f.0);
 }
 
@@ -287,11 +393,13 @@ after_text_is : (text all rest : List ℕ) → following_text text all ≡ Some 
 unfolding following_text
 after_text_is text all rest e = by_test (bytes_eq (take (length text) all) text) refl e
   where
-    by_test : (b : Bool) → bytes_eq (take (length text) all) text ≡ b → cond b (Some (drop (length text) all)) None ≡ Some rest → all ≡ text ++ rest
+    by_test : (b : Bool) → bytes_eq (take (length text) all) text ≡ b → cond b (Some (drop (length text) all)) None ≡ Some rest
+        → all ≡ text ++ rest
     by_test false t e = cc
     by_test true t e =
         let same : drop (length text) all ≡ rest = ap (λ (o : Option (List ℕ)). unwrap_or o rest) e in
-        sym (take-append-drop (length text) all) ∙ ap (λ u. u ++ drop (length text) all) ((bytes_eq-Decides (take (length text) all) text).0 t) ∙ ap (λ u. text ++ u) same
+        sym (take-append-drop (length text) all) ∙ ap (λ u. u ++ drop (length text) all)
+        ((bytes_eq-Decides (take (length text) all) text).0 t) ∙ ap (λ u. text ++ u) same
 
 month_sound : (text : List ℕ) (m : ℕ) (rest : List ℕ) → month_at text ≡ Some (m, rest) → (text ≡ month_name m ++ rest) × (1 ≤ m) × (m < 13)
 unfolding month_at short_month_name
@@ -333,7 +441,8 @@ pub short_reads : Reads (day_month short_month_name) short_at
 unfolding short_at
 short_reads =
     let two = two_reads 100 (omega arith) in
-    joined_reads (two_below 100) (two_at 100) 32 (joined (month_form short_month_name) 32 year_form) (joined_at short_month_at 32 year_at) two
+    joined_reads (two_below 100) (two_at 100) 32 (joined (month_form short_month_name) 32 year_form)
+    (joined_at short_month_at 32 year_at) two
     (joined_reads (month_form short_month_name) short_month_at 32 year_form year_at short_month_reads year_reads refl) refl
 
 pub slashed_reads : Reads slashed slashed_at

@@ -5,11 +5,58 @@ use Rattle.liquid_dates.specs.declared.date_time.DateTime.{DateTime}
 use Rattle.liquid_dates.specs.declared.stamps.Stamp.{Stamp}
 use Rattle.liquid_dates.specs.meaning.Instant.{civil_date, civil_time, nanosecond, offset_seconds}
 use Rattle.liquid_dates.specs.meaning.Names.{month_name, short_month_name}
-use Rattle.liquid_dates.specs.meaning.DateText.{dashed_date_time, fraction_date_time, long_date_time, short_date_time, slashed_date_time, weekday_date_time, date_time_forms, with_given_offset, SameClock, SameDateTime}
-use Rattle.liquid_dates.proofs.PairForms.{hms, joined, offset_form, timed_dashed, timed_fraction, timed_day_month, timed_slashed, timed_weekday}
-use Rattle.liquid_dates.specs.steps.DateReader.{read_of, stamp_clock, stamp_by_year, stamp_by_fraction, stamp_by_day, stamp_by_month, stamp_by_weekday, timed_dashed_at, timed_fraction_at, timed_long_at, timed_short_at, timed_slashed_at, timed_weekday_at, HasStamp, IsStamped, without_weekday}
+use Rattle.liquid_dates.specs.meaning.DateText.{
+  dashed_date_time,
+  fraction_date_time,
+  long_date_time,
+  short_date_time,
+  slashed_date_time,
+  weekday_date_time,
+  date_time_forms,
+  with_given_offset,
+  SameClock,
+  SameDateTime,
+}
+use Rattle.liquid_dates.proofs.PairForms.{
+  hms,
+  joined,
+  offset_form,
+  timed_dashed,
+  timed_fraction,
+  timed_day_month,
+  timed_slashed,
+  timed_weekday,
+}
+use Rattle.liquid_dates.specs.steps.DateReader.{
+  read_of,
+  stamp_clock,
+  stamp_by_year,
+  stamp_by_fraction,
+  stamp_by_day,
+  stamp_by_month,
+  stamp_by_weekday,
+  timed_dashed_at,
+  timed_fraction_at,
+  timed_long_at,
+  timed_short_at,
+  timed_slashed_at,
+  timed_weekday_at,
+  HasStamp,
+  IsStamped,
+  without_weekday,
+}
 use Rattle.liquid_dates.proofs.DateTextLemmas.{some_pair}
-use Rattle.liquid_dates.proofs.TimedLemmas.{timed_dashed_reads, timed_fraction_reads, timed_long_reads, timed_short_reads, timed_slashed_reads, timed_weekday_reads, stamped_found, stamped_whole, joined_once}
+use Rattle.liquid_dates.proofs.TimedLemmas.{
+  timed_dashed_reads,
+  timed_fraction_reads,
+  timed_long_reads,
+  timed_short_reads,
+  timed_slashed_reads,
+  timed_weekday_reads,
+  stamped_found,
+  stamped_whole,
+  joined_once,
+}
 
 -- the same time of day shows the same on a clock
 same_clock : (a b : DateTime) → hms a.local ≡ hms b.local → SameClock (civil_time a) (civil_time b)
@@ -51,12 +98,20 @@ stamp_fraction s = ((s.date.year, (s.date.month, s.date.day)), (stamp_clock s, s
 stamp_fraction_is : (s : Stamp) (dt : DateTime) → HasStamp s dt → stamp_fraction s ≡ by_fraction dt
 stamp_fraction_is s dt h = rw (h.0, h.1, h.2, h.3, h.4, h.5, h.6) refl
 
-pub dashed_found : (given : Bool) (text : List ℕ) (read : Option (Stamp × Bor (List ℕ))) (dt : DateTime) → option_map stamp_by_year (read_of read) ≡ timed_dashed_at text → IfSome read (λ p. p.0.nanosecond ≡ 0) → IsStamped given read dt → dashed_date_time (with_given_offset given text) dt
+pub dashed_found : (given : Bool) (text : List ℕ) (read : Option (Stamp × Bor (List ℕ))) (dt : DateTime)
+    → option_map stamp_by_year (read_of read) ≡ timed_dashed_at text → IfSome read (λ p. p.0.nanosecond ≡ 0) → IsStamped given read dt
+    → dashed_date_time (with_given_offset given text) dt
 unfolding dashed_date_time
 dashed_found given text None dt e w h = absurd h
-dashed_found given text (Some (s, rest)) dt e w h = (subst (λ v. joined timed_dashed 32 offset_form (with_given_offset given text) (v, offset_seconds dt)) (stamp_year_is s dt h.1) (stamped_found timed_dashed timed_dashed_at timed_dashed_reads given text (stamp_year s) rest.now (offset_seconds dt) (sym e) h.0), sym h.1.6 ∙ w)
+dashed_found given text (Some (s, rest)) dt e w h = (
+  subst (λ v. joined timed_dashed 32 offset_form (with_given_offset given text) (v, offset_seconds dt)) (stamp_year_is s dt h.1)
+      (stamped_found timed_dashed timed_dashed_at timed_dashed_reads given text (stamp_year s) rest.now (offset_seconds dt) (sym e) h.0),
+  sym h.1.6 ∙ w,
+)
 
-pub dashed_whole : (given : Bool) (text : List ℕ) (read : Option (Stamp × Bor (List ℕ))) (dt : DateTime) → option_map stamp_by_year (read_of read) ≡ timed_dashed_at text → IfSome read (λ p. p.0.nanosecond ≡ 0) → dashed_date_time (with_given_offset given text) dt → IsStamped given read dt
+pub dashed_whole : (given : Bool) (text : List ℕ) (read : Option (Stamp × Bor (List ℕ))) (dt : DateTime)
+    → option_map stamp_by_year (read_of read) ≡ timed_dashed_at text → IfSome read (λ p. p.0.nanosecond ≡ 0)
+    → dashed_date_time (with_given_offset given text) dt → IsStamped given read dt
 unfolding dashed_date_time
 dashed_whole given text None dt e w h =
     let is = stamped_whole timed_dashed timed_dashed_at timed_dashed_reads given text (by_year dt) (offset_seconds dt) h.0 in
@@ -64,22 +119,42 @@ dashed_whole given text None dt e w h =
 dashed_whole given text (Some (s, rest)) dt e w h =
     let is = stamped_whole timed_dashed timed_dashed_at timed_dashed_reads given text (by_year dt) (offset_seconds dt) h.0 in
     let pair = some_pair (stamp_year s) (by_year dt) rest.now is.rest (timed_dashed_at text) (timed_dashed_at text) (sym e) is.read refl in
-    let v = pair.0 in
-    (rw pair.1 is.ends, (ap (λ p. p.0.0) v, ap (λ p. p.0.1.0) v, ap (λ p. p.0.1.1) v, ap (λ p. p.1.0) v, ap (λ p. p.1.1.0) v, ap (λ p. p.1.1.1) v, w ∙ sym h.1))
+    let v = pair.0 in (
+      rw pair.1 is.ends,
+      (
+        ap (λ p. p.0.0) v,
+        ap (λ p. p.0.1.0) v,
+        ap (λ p. p.0.1.1) v,
+        ap (λ p. p.1.0) v,
+        ap (λ p. p.1.1.0) v,
+        ap (λ p. p.1.1.1) v,
+        w ∙ sym h.1,
+      ),
+    )
 
 pub dashed_once : (text : List ℕ) (a b : DateTime) → dashed_date_time text a → dashed_date_time text b → SameDateTime a b
 unfolding dashed_date_time
 dashed_once text a b h k =
-    let same = joined_once timed_dashed timed_dashed_at timed_dashed_reads text (by_year a) (by_year b) (offset_seconds a) (offset_seconds b) h.0 k.0 in
+    let same = joined_once timed_dashed timed_dashed_at timed_dashed_reads text (by_year a) (by_year b) (offset_seconds a)
+    (offset_seconds b) h.0 k.0 in
     let v = same.0 in
     ((ap (λ p. p.0.0) v, ap (λ p. p.0.1.0) v, ap (λ p. p.0.1.1) v), same_clock a b (ap (λ p. p.1) v), h.1 ∙ sym k.1, same.1)
 
-pub long_found : (given : Bool) (text : List ℕ) (read : Option (Stamp × Bor (List ℕ))) (dt : DateTime) → option_map stamp_by_day (read_of read) ≡ timed_long_at text → IfSome read (λ p. p.0.nanosecond ≡ 0) → IsStamped given read dt → long_date_time (with_given_offset given text) dt
+pub long_found : (given : Bool) (text : List ℕ) (read : Option (Stamp × Bor (List ℕ))) (dt : DateTime)
+    → option_map stamp_by_day (read_of read) ≡ timed_long_at text → IfSome read (λ p. p.0.nanosecond ≡ 0) → IsStamped given read dt
+    → long_date_time (with_given_offset given text) dt
 unfolding long_date_time
 long_found given text None dt e w h = absurd h
-long_found given text (Some (s, rest)) dt e w h = (subst (λ v. joined (timed_day_month month_name) 32 offset_form (with_given_offset given text) (v, offset_seconds dt)) (stamp_day_is s dt h.1) (stamped_found (timed_day_month month_name) timed_long_at timed_long_reads given text (stamp_day s) rest.now (offset_seconds dt) (sym e) h.0), sym h.1.6 ∙ w)
+long_found given text (Some (s, rest)) dt e w h = (
+  subst (λ v. joined (timed_day_month month_name) 32 offset_form (with_given_offset given text) (v, offset_seconds dt))
+      (stamp_day_is s dt h.1) (stamped_found (timed_day_month month_name) timed_long_at timed_long_reads given text (stamp_day s) rest.now
+      (offset_seconds dt) (sym e) h.0),
+  sym h.1.6 ∙ w,
+)
 
-pub long_whole : (given : Bool) (text : List ℕ) (read : Option (Stamp × Bor (List ℕ))) (dt : DateTime) → option_map stamp_by_day (read_of read) ≡ timed_long_at text → IfSome read (λ p. p.0.nanosecond ≡ 0) → long_date_time (with_given_offset given text) dt → IsStamped given read dt
+pub long_whole : (given : Bool) (text : List ℕ) (read : Option (Stamp × Bor (List ℕ))) (dt : DateTime)
+    → option_map stamp_by_day (read_of read) ≡ timed_long_at text → IfSome read (λ p. p.0.nanosecond ≡ 0)
+    → long_date_time (with_given_offset given text) dt → IsStamped given read dt
 unfolding long_date_time
 long_whole given text None dt e w h =
     let is = stamped_whole (timed_day_month month_name) timed_long_at timed_long_reads given text (by_day dt) (offset_seconds dt) h.0 in
@@ -87,82 +162,155 @@ long_whole given text None dt e w h =
 long_whole given text (Some (s, rest)) dt e w h =
     let is = stamped_whole (timed_day_month month_name) timed_long_at timed_long_reads given text (by_day dt) (offset_seconds dt) h.0 in
     let pair = some_pair (stamp_day s) (by_day dt) rest.now is.rest (timed_long_at text) (timed_long_at text) (sym e) is.read refl in
-    let v = pair.0 in
-    (rw pair.1 is.ends, (ap (λ p. p.0.1.1) v, ap (λ p. p.0.1.0) v, ap (λ p. p.0.0) v, ap (λ p. p.1.0) v, ap (λ p. p.1.1.0) v, ap (λ p. p.1.1.1) v, w ∙ sym h.1))
+    let v = pair.0 in (
+      rw pair.1 is.ends,
+      (
+        ap (λ p. p.0.1.1) v,
+        ap (λ p. p.0.1.0) v,
+        ap (λ p. p.0.0) v,
+        ap (λ p. p.1.0) v,
+        ap (λ p. p.1.1.0) v,
+        ap (λ p. p.1.1.1) v,
+        w ∙ sym h.1,
+      ),
+    )
 
 pub long_once : (text : List ℕ) (a b : DateTime) → long_date_time text a → long_date_time text b → SameDateTime a b
 unfolding long_date_time
 long_once text a b h k =
-    let same = joined_once (timed_day_month month_name) timed_long_at timed_long_reads text (by_day a) (by_day b) (offset_seconds a) (offset_seconds b) h.0 k.0 in
+    let same = joined_once (timed_day_month month_name) timed_long_at timed_long_reads text (by_day a) (by_day b) (offset_seconds a)
+    (offset_seconds b) h.0 k.0 in
     let v = same.0 in
     ((ap (λ p. p.0.1.1) v, ap (λ p. p.0.1.0) v, ap (λ p. p.0.0) v), same_clock a b (ap (λ p. p.1) v), h.1 ∙ sym k.1, same.1)
 
-pub short_found : (given : Bool) (text : List ℕ) (read : Option (Stamp × Bor (List ℕ))) (dt : DateTime) → option_map stamp_by_day (read_of read) ≡ timed_short_at text → IfSome read (λ p. p.0.nanosecond ≡ 0) → IsStamped given read dt → short_date_time (with_given_offset given text) dt
+pub short_found : (given : Bool) (text : List ℕ) (read : Option (Stamp × Bor (List ℕ))) (dt : DateTime)
+    → option_map stamp_by_day (read_of read) ≡ timed_short_at text → IfSome read (λ p. p.0.nanosecond ≡ 0) → IsStamped given read dt
+    → short_date_time (with_given_offset given text) dt
 unfolding short_date_time
 short_found given text None dt e w h = absurd h
-short_found given text (Some (s, rest)) dt e w h = (subst (λ v. joined (timed_day_month short_month_name) 32 offset_form (with_given_offset given text) (v, offset_seconds dt)) (stamp_day_is s dt h.1) (stamped_found (timed_day_month short_month_name) timed_short_at timed_short_reads given text (stamp_day s) rest.now (offset_seconds dt) (sym e) h.0), sym h.1.6 ∙ w)
+short_found given text (Some (s, rest)) dt e w h = (
+  subst (λ v. joined (timed_day_month short_month_name) 32 offset_form (with_given_offset given text) (v, offset_seconds dt))
+      (stamp_day_is s dt h.1) (stamped_found (timed_day_month short_month_name) timed_short_at timed_short_reads given text
+      (stamp_day s) rest.now (offset_seconds dt) (sym e) h.0),
+  sym h.1.6 ∙ w,
+)
 
-pub short_whole : (given : Bool) (text : List ℕ) (read : Option (Stamp × Bor (List ℕ))) (dt : DateTime) → option_map stamp_by_day (read_of read) ≡ timed_short_at text → IfSome read (λ p. p.0.nanosecond ≡ 0) → short_date_time (with_given_offset given text) dt → IsStamped given read dt
+pub short_whole : (given : Bool) (text : List ℕ) (read : Option (Stamp × Bor (List ℕ))) (dt : DateTime)
+    → option_map stamp_by_day (read_of read) ≡ timed_short_at text → IfSome read (λ p. p.0.nanosecond ≡ 0)
+    → short_date_time (with_given_offset given text) dt → IsStamped given read dt
 unfolding short_date_time
 short_whole given text None dt e w h =
-    let is = stamped_whole (timed_day_month short_month_name) timed_short_at timed_short_reads given text (by_day dt) (offset_seconds dt) h.0 in
+    let is = stamped_whole (timed_day_month short_month_name) timed_short_at timed_short_reads given text (by_day dt)
+    (offset_seconds dt) h.0 in
     let none = e ∙ is.read in cc
 short_whole given text (Some (s, rest)) dt e w h =
-    let is = stamped_whole (timed_day_month short_month_name) timed_short_at timed_short_reads given text (by_day dt) (offset_seconds dt) h.0 in
+    let is = stamped_whole (timed_day_month short_month_name) timed_short_at timed_short_reads given text (by_day dt)
+    (offset_seconds dt) h.0 in
     let pair = some_pair (stamp_day s) (by_day dt) rest.now is.rest (timed_short_at text) (timed_short_at text) (sym e) is.read refl in
-    let v = pair.0 in
-    (rw pair.1 is.ends, (ap (λ p. p.0.1.1) v, ap (λ p. p.0.1.0) v, ap (λ p. p.0.0) v, ap (λ p. p.1.0) v, ap (λ p. p.1.1.0) v, ap (λ p. p.1.1.1) v, w ∙ sym h.1))
+    let v = pair.0 in (
+      rw pair.1 is.ends,
+      (
+        ap (λ p. p.0.1.1) v,
+        ap (λ p. p.0.1.0) v,
+        ap (λ p. p.0.0) v,
+        ap (λ p. p.1.0) v,
+        ap (λ p. p.1.1.0) v,
+        ap (λ p. p.1.1.1) v,
+        w ∙ sym h.1,
+      ),
+    )
 
 pub short_once : (text : List ℕ) (a b : DateTime) → short_date_time text a → short_date_time text b → SameDateTime a b
 unfolding short_date_time
 short_once text a b h k =
-    let same = joined_once (timed_day_month short_month_name) timed_short_at timed_short_reads text (by_day a) (by_day b) (offset_seconds a) (offset_seconds b) h.0 k.0 in
+    let same = joined_once (timed_day_month short_month_name) timed_short_at timed_short_reads text (by_day a) (by_day b)
+    (offset_seconds a) (offset_seconds b) h.0 k.0 in
     let v = same.0 in
     ((ap (λ p. p.0.1.1) v, ap (λ p. p.0.1.0) v, ap (λ p. p.0.0) v), same_clock a b (ap (λ p. p.1) v), h.1 ∙ sym k.1, same.1)
 
-pub slashed_found : (given : Bool) (text : List ℕ) (read : Option (Stamp × Bor (List ℕ))) (dt : DateTime) → option_map stamp_by_month (read_of read) ≡ timed_slashed_at text → IfSome read (λ p. p.0.nanosecond ≡ 0) → IsStamped given read dt → slashed_date_time (with_given_offset given text) dt
+pub slashed_found : (given : Bool) (text : List ℕ) (read : Option (Stamp × Bor (List ℕ))) (dt : DateTime)
+    → option_map stamp_by_month (read_of read) ≡ timed_slashed_at text → IfSome read (λ p. p.0.nanosecond ≡ 0) → IsStamped given read dt
+    → slashed_date_time (with_given_offset given text) dt
 unfolding slashed_date_time
 slashed_found given text None dt e w h = absurd h
-slashed_found given text (Some (s, rest)) dt e w h = (subst (λ v. joined timed_slashed 32 offset_form (with_given_offset given text) (v, offset_seconds dt)) (stamp_month_is s dt h.1) (stamped_found timed_slashed timed_slashed_at timed_slashed_reads given text (stamp_month s) rest.now (offset_seconds dt) (sym e) h.0), sym h.1.6 ∙ w)
+slashed_found given text (Some (s, rest)) dt e w h = (
+  subst (λ v. joined timed_slashed 32 offset_form (with_given_offset given text) (v, offset_seconds dt)) (stamp_month_is s dt h.1)
+      (stamped_found timed_slashed timed_slashed_at timed_slashed_reads given text (stamp_month s) rest.now (offset_seconds dt)
+      (sym e) h.0),
+  sym h.1.6 ∙ w,
+)
 
-pub slashed_whole : (given : Bool) (text : List ℕ) (read : Option (Stamp × Bor (List ℕ))) (dt : DateTime) → option_map stamp_by_month (read_of read) ≡ timed_slashed_at text → IfSome read (λ p. p.0.nanosecond ≡ 0) → slashed_date_time (with_given_offset given text) dt → IsStamped given read dt
+pub slashed_whole : (given : Bool) (text : List ℕ) (read : Option (Stamp × Bor (List ℕ))) (dt : DateTime)
+    → option_map stamp_by_month (read_of read) ≡ timed_slashed_at text → IfSome read (λ p. p.0.nanosecond ≡ 0)
+    → slashed_date_time (with_given_offset given text) dt → IsStamped given read dt
 unfolding slashed_date_time
 slashed_whole given text None dt e w h =
     let is = stamped_whole timed_slashed timed_slashed_at timed_slashed_reads given text (by_month dt) (offset_seconds dt) h.0 in
     let none = e ∙ is.read in cc
 slashed_whole given text (Some (s, rest)) dt e w h =
     let is = stamped_whole timed_slashed timed_slashed_at timed_slashed_reads given text (by_month dt) (offset_seconds dt) h.0 in
-    let pair = some_pair (stamp_month s) (by_month dt) rest.now is.rest (timed_slashed_at text) (timed_slashed_at text) (sym e) is.read refl in
-    let v = pair.0 in
-    (rw pair.1 is.ends, (ap (λ p. p.0.1.1) v, ap (λ p. p.0.0) v, ap (λ p. p.0.1.0) v, ap (λ p. p.1.0) v, ap (λ p. p.1.1.0) v, ap (λ p. p.1.1.1) v, w ∙ sym h.1))
+    let pair = some_pair (stamp_month s) (by_month dt) rest.now is.rest (timed_slashed_at text) (timed_slashed_at text)
+    (sym e) is.read refl in
+    let v = pair.0 in (
+      rw pair.1 is.ends,
+      (
+        ap (λ p. p.0.1.1) v,
+        ap (λ p. p.0.0) v,
+        ap (λ p. p.0.1.0) v,
+        ap (λ p. p.1.0) v,
+        ap (λ p. p.1.1.0) v,
+        ap (λ p. p.1.1.1) v,
+        w ∙ sym h.1,
+      ),
+    )
 
 pub slashed_once : (text : List ℕ) (a b : DateTime) → slashed_date_time text a → slashed_date_time text b → SameDateTime a b
 unfolding slashed_date_time
 slashed_once text a b h k =
-    let same = joined_once timed_slashed timed_slashed_at timed_slashed_reads text (by_month a) (by_month b) (offset_seconds a) (offset_seconds b) h.0 k.0 in
+    let same = joined_once timed_slashed timed_slashed_at timed_slashed_reads text (by_month a) (by_month b) (offset_seconds a)
+    (offset_seconds b) h.0 k.0 in
     let v = same.0 in
     ((ap (λ p. p.0.1.1) v, ap (λ p. p.0.0) v, ap (λ p. p.0.1.0) v), same_clock a b (ap (λ p. p.1) v), h.1 ∙ sym k.1, same.1)
 
-pub fraction_found : (given : Bool) (text : List ℕ) (read : Option (Stamp × Bor (List ℕ))) (dt : DateTime) → option_map stamp_by_fraction (read_of read) ≡ timed_fraction_at text → IsStamped given read dt → fraction_date_time (with_given_offset given text) dt
+pub fraction_found : (given : Bool) (text : List ℕ) (read : Option (Stamp × Bor (List ℕ))) (dt : DateTime)
+    → option_map stamp_by_fraction (read_of read) ≡ timed_fraction_at text → IsStamped given read dt
+    → fraction_date_time (with_given_offset given text) dt
 unfolding fraction_date_time
 fraction_found given text None dt e h = absurd h
-fraction_found given text (Some (s, rest)) dt e h = subst (λ v. joined timed_fraction 32 offset_form (with_given_offset given text) (v, offset_seconds dt)) (stamp_fraction_is s dt h.1) (stamped_found timed_fraction timed_fraction_at timed_fraction_reads given text (stamp_fraction s) rest.now (offset_seconds dt) (sym e) h.0)
+fraction_found given text (Some (s, rest)) dt e h =
+    subst (λ v. joined timed_fraction 32 offset_form (with_given_offset given text) (v, offset_seconds dt)) (stamp_fraction_is s dt h.1)
+    (stamped_found timed_fraction timed_fraction_at timed_fraction_reads given text (stamp_fraction s) rest.now (offset_seconds dt)
+    (sym e) h.0)
 
-pub fraction_whole : (given : Bool) (text : List ℕ) (read : Option (Stamp × Bor (List ℕ))) (dt : DateTime) → option_map stamp_by_fraction (read_of read) ≡ timed_fraction_at text → fraction_date_time (with_given_offset given text) dt → IsStamped given read dt
+pub fraction_whole : (given : Bool) (text : List ℕ) (read : Option (Stamp × Bor (List ℕ))) (dt : DateTime)
+    → option_map stamp_by_fraction (read_of read) ≡ timed_fraction_at text → fraction_date_time (with_given_offset given text) dt
+    → IsStamped given read dt
 unfolding fraction_date_time
 fraction_whole given text None dt e h =
     let is = stamped_whole timed_fraction timed_fraction_at timed_fraction_reads given text (by_fraction dt) (offset_seconds dt) h in
     let none = e ∙ is.read in cc
 fraction_whole given text (Some (s, rest)) dt e h =
     let is = stamped_whole timed_fraction timed_fraction_at timed_fraction_reads given text (by_fraction dt) (offset_seconds dt) h in
-    let pair = some_pair (stamp_fraction s) (by_fraction dt) rest.now is.rest (timed_fraction_at text) (timed_fraction_at text) (sym e) is.read refl in
-    let v = pair.0 in
-    (rw pair.1 is.ends, (ap (λ p. p.0.0) v, ap (λ p. p.0.1.0) v, ap (λ p. p.0.1.1) v, ap (λ p. p.1.0.0) v, ap (λ p. p.1.0.1.0) v, ap (λ p. p.1.0.1.1) v, ap (λ p. p.1.1) v))
+    let pair = some_pair (stamp_fraction s) (by_fraction dt) rest.now is.rest (timed_fraction_at text) (timed_fraction_at text)
+    (sym e) is.read refl in
+    let v = pair.0 in (
+      rw pair.1 is.ends,
+      (
+        ap (λ p. p.0.0) v,
+        ap (λ p. p.0.1.0) v,
+        ap (λ p. p.0.1.1) v,
+        ap (λ p. p.1.0.0) v,
+        ap (λ p. p.1.0.1.0) v,
+        ap (λ p. p.1.0.1.1) v,
+        ap (λ p. p.1.1) v,
+      ),
+    )
 
 pub fraction_once : (text : List ℕ) (a b : DateTime) → fraction_date_time text a → fraction_date_time text b → SameDateTime a b
 unfolding fraction_date_time
 fraction_once text a b h k =
-    let same = joined_once timed_fraction timed_fraction_at timed_fraction_reads text (by_fraction a) (by_fraction b) (offset_seconds a) (offset_seconds b) h k in
+    let same = joined_once timed_fraction timed_fraction_at timed_fraction_reads text (by_fraction a) (by_fraction b) (offset_seconds a)
+    (offset_seconds b) h k in
     let v = same.0 in
     ((ap (λ p. p.0.0) v, ap (λ p. p.0.1.0) v, ap (λ p. p.0.1.1) v), same_clock a b (ap (λ p. p.1.0) v), ap (λ p. p.1.1) v, same.1)
 
@@ -175,27 +323,48 @@ stamp_weekday w s = (w, (s.date.month, (s.date.day, (stamp_clock s, s.date.year)
 stamp_weekday_is : (w : ℕ) (s : Stamp) (dt : DateTime) → HasStamp s dt → stamp_weekday w s ≡ by_weekday w dt
 stamp_weekday_is w s dt h = rw (h.0, h.1, h.2, h.3, h.4, h.5) refl
 
-pub weekday_found : (given : Bool) (text : List ℕ) (read : Option ((ℕ × Stamp) × Bor (List ℕ))) (dt : DateTime) → option_map stamp_by_weekday (read_of read) ≡ timed_weekday_at text → IfSome read (λ p. p.0.1.nanosecond ≡ 0) → IsStamped given (option_map without_weekday read) dt → weekday_date_time (with_given_offset given text) dt
+pub weekday_found : (given : Bool) (text : List ℕ) (read : Option ((ℕ × Stamp) × Bor (List ℕ))) (dt : DateTime)
+    → option_map stamp_by_weekday (read_of read) ≡ timed_weekday_at text → IfSome read (λ p. p.0.1.nanosecond ≡ 0)
+    → IsStamped given (option_map without_weekday read) dt → weekday_date_time (with_given_offset given text) dt
 unfolding weekday_date_time
 weekday_found given text None dt e z h = absurd h
-weekday_found given text (Some ((w, s), rest)) dt e z h =
-    (w, subst (λ v. joined timed_weekday 32 offset_form (with_given_offset given text) (v, offset_seconds dt)) (stamp_weekday_is w s dt h.1) (stamped_found timed_weekday timed_weekday_at timed_weekday_reads given text (stamp_weekday w s) rest.now (offset_seconds dt) (sym e) h.0), sym h.1.6 ∙ z)
+weekday_found given text (Some ((w, s), rest)) dt e z h = (
+  w,
+  subst (λ v. joined timed_weekday 32 offset_form (with_given_offset given text) (v, offset_seconds dt))
+      (stamp_weekday_is w s dt h.1) (stamped_found timed_weekday timed_weekday_at timed_weekday_reads given text
+      (stamp_weekday w s) rest.now (offset_seconds dt) (sym e) h.0),
+  sym h.1.6 ∙ z,
+)
 
-pub weekday_whole : (given : Bool) (text : List ℕ) (read : Option ((ℕ × Stamp) × Bor (List ℕ))) (dt : DateTime) → option_map stamp_by_weekday (read_of read) ≡ timed_weekday_at text → IfSome read (λ p. p.0.1.nanosecond ≡ 0) → weekday_date_time (with_given_offset given text) dt → IsStamped given (option_map without_weekday read) dt
+pub weekday_whole : (given : Bool) (text : List ℕ) (read : Option ((ℕ × Stamp) × Bor (List ℕ))) (dt : DateTime)
+    → option_map stamp_by_weekday (read_of read) ≡ timed_weekday_at text → IfSome read (λ p. p.0.1.nanosecond ≡ 0)
+    → weekday_date_time (with_given_offset given text) dt → IsStamped given (option_map without_weekday read) dt
 unfolding weekday_date_time
 weekday_whole given text None dt e z (w, h, n) =
     let is = stamped_whole timed_weekday timed_weekday_at timed_weekday_reads given text (by_weekday w dt) (offset_seconds dt) h in
     let none = e ∙ is.read in cc
 weekday_whole given text (Some ((k, s), rest)) dt e z (w, h, n) =
     let is = stamped_whole timed_weekday timed_weekday_at timed_weekday_reads given text (by_weekday w dt) (offset_seconds dt) h in
-    let pair = some_pair (stamp_weekday k s) (by_weekday w dt) rest.now is.rest (timed_weekday_at text) (timed_weekday_at text) (sym e) is.read refl in
-    let v = pair.0 in
-    (rw pair.1 is.ends, (ap (λ p. p.1.1.1.1) v, ap (λ p. p.1.0) v, ap (λ p. p.1.1.0) v, ap (λ p. p.1.1.1.0.0) v, ap (λ p. p.1.1.1.0.1.0) v, ap (λ p. p.1.1.1.0.1.1) v, z ∙ sym n))
+    let pair = some_pair (stamp_weekday k s) (by_weekday w dt) rest.now is.rest (timed_weekday_at text) (timed_weekday_at text)
+    (sym e) is.read refl in
+    let v = pair.0 in (
+      rw pair.1 is.ends,
+      (
+        ap (λ p. p.1.1.1.1) v,
+        ap (λ p. p.1.0) v,
+        ap (λ p. p.1.1.0) v,
+        ap (λ p. p.1.1.1.0.0) v,
+        ap (λ p. p.1.1.1.0.1.0) v,
+        ap (λ p. p.1.1.1.0.1.1) v,
+        z ∙ sym n,
+      ),
+    )
 
 pub weekday_once : (text : List ℕ) (a b : DateTime) → weekday_date_time text a → weekday_date_time text b → SameDateTime a b
 unfolding weekday_date_time
 weekday_once text a b (w, h, n) (x, k, o) =
-    let same = joined_once timed_weekday timed_weekday_at timed_weekday_reads text (by_weekday w a) (by_weekday x b) (offset_seconds a) (offset_seconds b) h k in
+    let same = joined_once timed_weekday timed_weekday_at timed_weekday_reads text (by_weekday w a) (by_weekday x b) (offset_seconds a)
+    (offset_seconds b) h k in
     let v = same.0 in
     ((ap (λ p. p.1.1.1.1) v, ap (λ p. p.1.0) v, ap (λ p. p.1.1.0) v), same_clock a b (ap (λ p. p.1.1.1.0) v), n ∙ sym o, same.1)
 
@@ -214,6 +383,9 @@ date_time_once text a b (inr (_, inr (_, inr (_, inl h)))) (inr (_, inr (_, inr 
 date_time_once text a b (inr (_, inr (_, inr (_, inl h)))) (inr (_, inr (_, inr (_, inr (apart, k))))) = absurd (apart a h)
 date_time_once text a b (inr (_, inr (_, inr (_, inr (apart, h))))) (inr (_, inr (_, inr (_, inl k)))) = absurd (apart b k)
 date_time_once text a b (inr (_, inr (_, inr (_, inr (_, inl h))))) (inr (_, inr (_, inr (_, inr (_, inl k))))) = slashed_once text a b h k
-date_time_once text a b (inr (_, inr (_, inr (_, inr (_, inl h))))) (inr (_, inr (_, inr (_, inr (_, inr (apart, k)))))) = absurd (apart a h)
-date_time_once text a b (inr (_, inr (_, inr (_, inr (_, inr (apart, h)))))) (inr (_, inr (_, inr (_, inr (_, inl k))))) = absurd (apart b k)
-date_time_once text a b (inr (_, inr (_, inr (_, inr (_, inr (_, h)))))) (inr (_, inr (_, inr (_, inr (_, inr (_, k)))))) = weekday_once text a b h k
+date_time_once text a b (inr (_, inr (_, inr (_, inr (_, inl h))))) (inr (_, inr (_, inr (_, inr (_, inr (apart, k)))))) =
+    absurd (apart a h)
+date_time_once text a b (inr (_, inr (_, inr (_, inr (_, inr (apart, h)))))) (inr (_, inr (_, inr (_, inr (_, inl k))))) =
+    absurd (apart b k)
+date_time_once text a b (inr (_, inr (_, inr (_, inr (_, inr (_, h)))))) (inr (_, inr (_, inr (_, inr (_, inr (_, k)))))) =
+    weekday_once text a b h k

@@ -1,5 +1,29 @@
 -- The ISO year and week of a date are those of any week date of the same day.
-use Rattle.std.proofs.Common.{◌≡◌, ℕ, ◌+◌, ◌-◌, ◌*◌, ◌/◌, refl, arith, ℤ, pos, neg_ℤ, ◌+ℤ◌, ◌-ℤ◌, ◌<ℤ◌, ◌≤ℤ◌, ◌<◌, ◌≤◌, int_lt, unsigned_abs, if◌then◌else◌, Bool, true, false}
+use Rattle.std.proofs.Common.{
+  ◌≡◌,
+  ℕ,
+  ◌+◌,
+  ◌-◌,
+  ◌*◌,
+  ◌/◌,
+  refl,
+  arith,
+  ℤ,
+  pos,
+  neg_ℤ,
+  ◌+ℤ◌,
+  ◌-ℤ◌,
+  ◌<ℤ◌,
+  ◌≤ℤ◌,
+  ◌<◌,
+  ◌≤◌,
+  int_lt,
+  unsigned_abs,
+  if◌then◌else◌,
+  Bool,
+  true,
+  false,
+}
 use Rattle.jiff_core.specs.declared.civil.weekday.Weekday.{Weekday}
 use Rattle.jiff_core.specs.declared.civil.weekday.Weekday.TheVariants.{Monday, Tuesday, Wednesday, Thursday, Friday, Saturday, Sunday}
 use Rattle.std.proofs.lemmas.Int.{by_lt_z}
@@ -48,7 +72,9 @@ year_only a b day h k =
     (λ le. omega (arith, signed_arith)))
 
 -- the year that the definition picks
-picked : (d : Date) → (a b : Bool) → int_lt (epoch_day d) (iso_year_start d.year) ≡ a → int_lt (epoch_day d) (iso_year_start (d.year +ℤ pos 1)) ≡ b → IsInYear (if a then d.year -ℤ pos 1 else (if b then d.year else d.year +ℤ pos 1)) (epoch_day d)
+picked : (d : Date) → (a b : Bool) → int_lt (epoch_day d) (iso_year_start d.year) ≡ a
+    → int_lt (epoch_day d) (iso_year_start (d.year +ℤ pos 1)) ≡ b
+    → IsInYear (if a then d.year -ℤ pos 1 else (if b then d.year else d.year +ℤ pos 1)) (epoch_day d)
 picked d true b p q =
     let lt : epoch_day d <ℤ iso_year_start d.year = omega (arith, signed_arith) in
     let e : (d.year -ℤ pos 1) +ℤ pos 1 ≡ d.year = omega (arith, signed_arith) in
@@ -80,9 +106,15 @@ week_date_in : (w : ISOWeekDate) (day : ℤ) → iso_epoch_day w ≡ day → IsI
 unfolding days_from_iso
 week_date_in w day e =
     let next = weeks_in_year-next w.year (w.year +ℤ pos 1) w.year_in refl in
-    record { year = w.year_in; start = omega (arith, signed_arith); before = omega (arith, signed_arith, next.0, w.week_in, monday_zero_bound w.weekday) }
+    record {
+      year = w.year_in;
+      start = omega (arith, signed_arith);
+      before =
+          omega (arith, signed_arith, next.0, w.week_in, monday_zero_bound w.weekday);
+    }
 
-week_is : (start day : ℤ) (week place : ℕ) → 1 ≤ week → place < 7 → start +ℤ pos ((week - 1) * 7 + place) ≡ day → week ≡ unsigned_abs (day -ℤ start) / 7 + 1
+week_is : (start day : ℤ) (week place : ℕ) → 1 ≤ week → place < 7 → start +ℤ pos ((week - 1) * 7 + place) ≡ day
+    → week ≡ unsigned_abs (day -ℤ start) / 7 + 1
 week_is start day week place low high e = omega (arith, signed_arith, one_part (day -ℤ start))
 
 -- its year and week are the date's

@@ -1,5 +1,33 @@
 -- The reader's steps over flags, digits and letters.
-use Rattle.std.proofs.Common.{◌≡◌, ℕ, ◌+◌, ◌-◌, ◌*◌, ◌^◌, ◌<◌, ◌≤◌, Bool, true, false, cond, List, [], ◌∷◌, refl, sym, ap, ◌∙◌, arith, fold, Some, None, nat_lt, lt-ltb, lit<, Err}
+use Rattle.std.proofs.Common.{
+  ◌≡◌,
+  ℕ,
+  ◌+◌,
+  ◌-◌,
+  ◌*◌,
+  ◌^◌,
+  ◌<◌,
+  ◌≤◌,
+  Bool,
+  true,
+  false,
+  cond,
+  List,
+  [],
+  ◌∷◌,
+  refl,
+  sym,
+  ap,
+  ◌∙◌,
+  arith,
+  fold,
+  Some,
+  None,
+  nat_lt,
+  lt-ltb,
+  lit<,
+  Err,
+}
 use Rattle.std.proofs.lemmas.Bool.{ltb-true}
 use Rattle.liquid_dates.specs.declared.error.DateFormatError.TheVariants.{InvalidWidth}
 use Rattle.std.proofs.lemmas.Bool.Decides.{nat_tests}
@@ -7,9 +35,21 @@ use Rattle.liquid_dates.specs.declared.flags.Flags.{Flags}
 use Rattle.liquid_dates.specs.declared.pattern.Width.{Width}
 use Rattle.liquid_dates.specs.declared.pattern.Width.TheVariants.{Unset, Given, TooGreat}
 use Rattle.liquid_dates.specs.meaning.Flags.{is_flag, with_flag, flags_of, no_flags, is_digit, digits_number, width_of}
-use Rattle.liquid_dates.specs.steps.PatternReader.{front, following, flags_from, width_from, with_digit, bounded_width, directive_at, after_width, modifier_at}
+use Rattle.liquid_dates.specs.steps.PatternReader.{
+  front,
+  following,
+  flags_from,
+  width_from,
+  with_digit,
+  bounded_width,
+  directive_at,
+  after_width,
+  modifier_at,
+}
 
-flags_from_test : (flags : Flags) (c : ℕ) (cs : List ℕ) (b : Bool) → flags_from (with_flag flags c) cs ≡ fold with_flag (with_flag flags c) (front is_flag cs) → cond b (flags_from (with_flag flags c) cs) flags ≡ fold with_flag flags (cond b (c ∷ front is_flag cs) [])
+flags_from_test : (flags : Flags) (c : ℕ) (cs : List ℕ) (b : Bool) → flags_from (with_flag flags c) cs ≡ fold with_flag
+    (with_flag flags c) (front is_flag cs) → cond b (flags_from (with_flag flags c) cs) flags ≡ fold with_flag flags
+    (cond b (c ∷ front is_flag cs) [])
 flags_from_test flags c cs true e = e
 flags_from_test flags c cs false e = refl
 
@@ -32,7 +72,9 @@ bounded_more n c false e =
     let high : nat_lt (add_digit n c) (2 ^ 64) ≡ false = grind (arith, nat_tests) in
     rw high
 
-width_from_test : (n c : ℕ) (cs : List ℕ) (b : Bool) → width_from (bounded_width (add_digit n c)) cs ≡ bounded_width (fold add_digit (add_digit n c) (front is_digit cs)) → cond b (width_from (with_digit (bounded_width n) c) cs) (bounded_width n) ≡ bounded_width (fold add_digit n (cond b (c ∷ front is_digit cs) []))
+width_from_test : (n c : ℕ) (cs : List ℕ) (b : Bool) → width_from (bounded_width (add_digit n c)) cs ≡ bounded_width
+    (fold add_digit (add_digit n c) (front is_digit cs)) → cond b (width_from (with_digit (bounded_width n) c) cs)
+    (bounded_width n) ≡ bounded_width (fold add_digit n (cond b (c ∷ front is_digit cs) []))
 width_from_test n c cs true e = ap (λ w. width_from w cs) (bounded_more n c _ refl) ∙ e
 width_from_test n c cs false e = refl
 
@@ -45,7 +87,9 @@ abbrev pub width_read : List ℕ → Width
 width_read [] = Unset
 width_read (d ∷ ds) = bounded_width (digits_number (d ∷ ds))
 
-width_first : (c : ℕ) (cs : List ℕ) (b : Bool) → is_digit c ≡ b → width_from (bounded_width (add_digit 0 c)) cs ≡ bounded_width (fold add_digit (add_digit 0 c) (front is_digit cs)) → cond b (width_from (Given (c - 48)) cs) Unset ≡ width_read (cond b (c ∷ front is_digit cs) [])
+width_first : (c : ℕ) (cs : List ℕ) (b : Bool) → is_digit c ≡ b → width_from (bounded_width (add_digit 0 c)) cs ≡ bounded_width
+    (fold add_digit (add_digit 0 c) (front is_digit cs)) → cond b (width_from (Given (c - 48)) cs) Unset ≡ width_read
+    (cond b (c ∷ front is_digit cs) [])
 unfolding digits_number
 width_first c cs true d e =
     let low : nat_lt (add_digit 0 c) (2 ^ 64) ≡ true = grind (arith, nat_tests) in
@@ -95,11 +139,13 @@ read_great [] e = cc
 read_great (d ∷ ds) e = bounded_great _ e
 
 -- the parts of a directive, one after another
-pub directive_at_is : (cs b d : List ℕ) → b ≡ following is_flag cs → d ≡ following is_digit b → directive_at cs ≡ after_width (front is_flag cs) (front is_digit b) d
+pub directive_at_is : (cs b d : List ℕ) → b ≡ following is_flag cs → d ≡ following is_digit b
+    → directive_at cs ≡ after_width (front is_flag cs) (front is_digit b) d
 unfolding directive_at
 directive_at_is cs b d e f = rw (f, e) refl
 
-pub after_width_fits : (fs ds : List ℕ) (c : ℕ) (cs : List ℕ) → digits_number ds < 2 ^ 64 → after_width fs ds (c ∷ cs) ≡ modifier_at fs ds c cs
+pub after_width_fits : (fs ds : List ℕ) (c : ℕ) (cs : List ℕ) → digits_number ds < 2 ^ 64
+    → after_width fs ds (c ∷ cs) ≡ modifier_at fs ds c cs
 after_width_fits fs ds c cs h = rw (lt-ltb _ _ h)
 
 pub after_width_great : (fs ds : List ℕ) (c : ℕ) (cs : List ℕ) → 2 ^ 64 ≤ digits_number ds → after_width fs ds (c ∷ cs) ≡ Err InvalidWidth

@@ -1,5 +1,53 @@
 -- What is printed is read back.
-use Rattle.std.proofs.Common.{◌≡◌, ◌≢◌, ◌⊎◌, inl, inr, ℕ, suc, ◌+◌, ◌-◌, ◌*◌, ◌/◌, ◌%◌, ◌<◌, ◌≤◌, List, [], ◌∷◌, ◌++◌, refl, sym, ap, subst, ◌∙◌, arith, get_or, ℤ, pos, negsuc, neg_ℤ, unsigned_abs, Bool, true, false, cond, ◌&&◌, ◌||◌, eqb, length, length-append, fold, zero, ◌^◌, mul_assoc, nat_lt, pow-add, append_assoc, Some}
+use Rattle.std.proofs.Common.{
+  ◌≡◌,
+  ◌≢◌,
+  ◌⊎◌,
+  inl,
+  inr,
+  ℕ,
+  suc,
+  ◌+◌,
+  ◌-◌,
+  ◌*◌,
+  ◌/◌,
+  ◌%◌,
+  ◌<◌,
+  ◌≤◌,
+  List,
+  [],
+  ◌∷◌,
+  ◌++◌,
+  refl,
+  sym,
+  ap,
+  subst,
+  ◌∙◌,
+  arith,
+  get_or,
+  ℤ,
+  pos,
+  negsuc,
+  neg_ℤ,
+  unsigned_abs,
+  Bool,
+  true,
+  false,
+  cond,
+  ◌&&◌,
+  ◌||◌,
+  eqb,
+  length,
+  length-append,
+  fold,
+  zero,
+  ◌^◌,
+  mul_assoc,
+  nat_lt,
+  pow-add,
+  append_assoc,
+  Some,
+}
 use Rattle.std.specs.List.{list_all}
 use Rattle.std.specs.Str.Parse.{AllDigits, IsNumeral, without_leading_sign}
 use Rattle.std.specs.Str.{chars, trim, trim_start, trim_end, drop_trailing_whitespace}
@@ -17,9 +65,32 @@ use Rattle.jiff_core.proofs.CalendarLemmas.{days_in_month_bounds}
 use Rattle.liquid_dates.specs.declared.date_time.DateTime.{DateTime}
 use Rattle.liquid_dates.specs.meaning.Names.{month_name, short_month_name}
 use Rattle.liquid_dates.specs.meaning.Flags.{is_digit, digits_number}
-use Rattle.liquid_dates.specs.meaning.Printed.{two_digits, four_digits, year_text, date_text, clock_text, fraction_digits, fraction_text, sign_of, offset_text, date_time_text}
+use Rattle.liquid_dates.specs.meaning.Printed.{
+  two_digits,
+  four_digits,
+  year_text,
+  date_text,
+  clock_text,
+  fraction_digits,
+  fraction_text,
+  sign_of,
+  offset_text,
+  date_time_text,
+}
 use Rattle.liquid_dates.specs.meaning.Instant.{civil_date, civil_time, offset_seconds, nanosecond}
-use Rattle.liquid_dates.specs.meaning.DateText.{dashed_date, long_date, short_date, dashed_date_time, fraction_date_time, date_time_forms, is_offset_end, ends_in_offset, IsNow, IsDateText, IsDateTimeText}
+use Rattle.liquid_dates.specs.meaning.DateText.{
+  dashed_date,
+  long_date,
+  short_date,
+  dashed_date_time,
+  fraction_date_time,
+  date_time_forms,
+  is_offset_end,
+  ends_in_offset,
+  IsNow,
+  IsDateText,
+  IsDateTimeText,
+}
 use Rattle.liquid_dates.proofs.PairForms.{year_form, dashed, day_month, clock, offset_form, fraction_form, timed_dashed}
 use Rattle.liquid_dates.specs.steps.DateReader.{timed_dashed_at, offset_end}
 use Rattle.liquid_dates.proofs.DateTextLemmas.{some_pair}
@@ -35,8 +106,13 @@ pub dashed_printed : (d : CivilDate) → dashed (date_text d) (d.year, (d.month,
 unfolding date_text
 dashed_printed d =
     let month : d.month < 100 = omega (arith, d.month_in) in
-    let day : d.day < 100 = omega (arith, d.day_in, days_in_month_bounds d.year d.month) in
-    (year_text d.year, two_digits d.month ++ (45 ∷ two_digits d.day), refl, year_printed d.year d.year_in, (two_digits d.month, two_digits d.day, refl, (month, refl), (day, refl)))
+    let day : d.day < 100 = omega (arith, d.day_in, days_in_month_bounds d.year d.month) in (
+      year_text d.year,
+      two_digits d.month ++ (45 ∷ two_digits d.day),
+      refl,
+      year_printed d.year d.year_in,
+      (two_digits d.month, two_digits d.day, refl, (month, refl), (day, refl)),
+    )
 
 -- if a form writes a day first, the third character is a space, and the first a digit
 day_first : (name : ℕ → List ℕ) (text : List ℕ) (v : ℕ × (ℕ × ℤ)) → day_month name text v → (get_or text 2 0 ≡ 32) × (48 ≤ get_or text 0 0)
@@ -60,18 +136,27 @@ pub date_read_back : (d : CivilDate) (moment : DateTime) → IsDateText (date_te
 unfolding date_text dashed_date long_date short_date
 date_read_back d moment =
     let following = 45 ∷ (two_digits d.month ++ (45 ∷ two_digits d.day)) in
-    let no_day : (name : ℕ → List ℕ) (v : ℕ × (ℕ × ℤ)) → day_month name (date_text d) v → ⊥ = λ name v f. let s = day_first name (date_text d) v f in printed_no_day d.year following s.0 s.1 in (
+    let no_day : (name : ℕ → List ℕ) (v : ℕ × (ℕ × ℤ)) → day_month name (date_text d) v → ⊥ = λ name v f. let s =
+    day_first name (date_text d) v f in printed_no_day d.year following s.0 s.1 in (
     inr (
       λ today. printed_no_word d.year following d.year_in (ap (λ (t : List ℕ). get_or t 0 0) today),
-      inr (λ b f. no_day month_name (b.day, (b.month, b.year)) f, inr (λ b f. no_day short_month_name (b.day, (b.month, b.year)) f, dashed_printed d)),
+      inr (
+        λ b f. no_day month_name (b.day, (b.month, b.year)) f,
+        inr (λ b f. no_day short_month_name (b.day, (b.month, b.year)) f, dashed_printed d),
+      ),
     )
     )
 
 -- a clock and an offset that are printed
 clock_printed : (t : CivilTime) → clock (clock_text t) (t.hour, (t.minute, t.second))
 unfolding clock_text
-clock_printed t =
-    (two_digits t.hour, two_digits t.minute ++ (58 ∷ two_digits t.second), refl, (t.hour_in, refl), (two_digits t.minute, two_digits t.second, refl, (t.minute_in, refl), (t.second_in, refl)))
+clock_printed t = (
+  two_digits t.hour,
+  two_digits t.minute ++ (58 ∷ two_digits t.second),
+  refl,
+  (t.hour_in, refl),
+  (two_digits t.minute, two_digits t.second, refl, (t.minute_in, refl), (t.second_in, refl)),
+)
 
 offset_printed : (z : ℤ) → unsigned_abs z < 72_000 → unsigned_abs z % 60 ≡ 0 → offset_form (offset_text z) z
 unfolding offset_text
@@ -86,11 +171,15 @@ offset_printed (negsuc n) small whole =
 offset_ends : (s h m : ℕ) → (s ≡ 43) ⊎ (s ≡ 45) → h < 20 → m < 60 → is_offset_end (s ∷ (two_digits h ++ two_digits m)) ≡ true
 offset_ends s h m (inl e) small sixty = rw e (ends_test h m small sixty)
   where
-    ends_test : (h m : ℕ) → h < 20 → m < 60 → ((eqb (48 + h / 10) 48 || eqb (48 + h / 10) 49) && (is_digit (48 + h % 10) && (is_digit (48 + m / 10) && is_digit (48 + m % 10)))) ≡ true
+    ends_test : (h m : ℕ) → h < 20 → m < 60 →
+        ((eqb (48 + h / 10) 48 || eqb (48 + h / 10) 49) &&
+        (is_digit (48 + h % 10) && (is_digit (48 + m / 10) && is_digit (48 + m % 10)))) ≡ true
     ends_test h m small sixty = grind (arith, nat_tests)
 offset_ends s h m (inr e) small sixty = rw e (ends_test h m small sixty)
   where
-    ends_test : (h m : ℕ) → h < 20 → m < 60 → ((eqb (48 + h / 10) 48 || eqb (48 + h / 10) 49) && (is_digit (48 + h % 10) && (is_digit (48 + m / 10) && is_digit (48 + m % 10)))) ≡ true
+    ends_test : (h m : ℕ) → h < 20 → m < 60 →
+        ((eqb (48 + h / 10) 48 || eqb (48 + h / 10) 49) &&
+        (is_digit (48 + h % 10) && (is_digit (48 + m / 10) && is_digit (48 + m % 10)))) ≡ true
     ends_test h m small sixty = grind (arith, nat_tests)
 
 sign_is : (z : ℤ) → (sign_of z ≡ 43) ⊎ (sign_of z ≡ 45)
@@ -126,18 +215,21 @@ fraction_more k n q r ds small e more =
     let digit : is_digit (48 + q) ≡ true = grind (arith, nat_tests) in
     let q0 : 0 * 10 + (48 + q - 48) ≡ q = omega arith in
     let left : suc k - suc (length ds) ≡ k - length ds = omega arith in
-    let whole : 10 ^ k ≡ 10 ^ length ds * 10 ^ (k - length ds) = ap (λ i. 10 ^ i) (omega (arith, more.short)) ∙ pow-add 10 (length ds) (k - length ds) in
+    let whole : 10 ^ k ≡ 10 ^ length ds * 10 ^ (k - length ds) = ap (λ i. 10 ^ i) (omega (arith, more.short))
+    ∙ pow-add 10 (length ds) (k - length ds) in
     record {
       passes = rw digit more.passes;
       some = omega arith;
       short = omega (arith, more.short);
-      value = e ∙ rw (q0, left, fold_digits q ds) (sum_of q (10 ^ length ds) (10 ^ (k - length ds)) (fold (λ n c. n * 10 + (c - 48)) 0 ds) r (10 ^ k) whole more.value);
+      value = e ∙ rw (q0, left, fold_digits q ds)
+          (sum_of q (10 ^ length ds) (10 ^ (k - length ds)) (fold (λ n c. n * 10 + (c - 48)) 0 ds) r (10 ^ k) whole more.value);
     }
   where
     sum_of : (q a b v r p : ℕ) → p ≡ a * b → r ≡ v * b → q * p + r ≡ (q * a + v) * b
     sum_of q a b v r p e f = rw (e, f, add-mul (q * a) v b, mul_assoc q a b) refl
 
-fraction_test : (k n q r p : ℕ) (t : Bool) → eqb r 0 ≡ t → p ≡ 10 ^ k → n ≡ q * p + r → q < 10 → (0 < r → IsFraction k r (fraction_digits k r)) → IsFraction (suc k) n ((48 + q) ∷ cond t [] (fraction_digits k r))
+fraction_test : (k n q r p : ℕ) (t : Bool) → eqb r 0 ≡ t → p ≡ 10 ^ k → n ≡ q * p + r → q < 10
+    → (0 < r → IsFraction k r (fraction_digits k r)) → IsFraction (suc k) n ((48 + q) ∷ cond t [] (fraction_digits k r))
 fraction_test k n q r p false t e value small more =
     let some : 0 < r = grind (arith, nat_tests) in
     fraction_more k n q r (fraction_digits k r) small (value ∙ rw e refl) (more some)
@@ -233,7 +325,8 @@ year_some (pos n) rest e = cc
 year_some (negsuc n) rest e = cc
 
 -- the date and the time of a text are those of the dashed form
-stamp_printed : (d : CivilDate) (t : CivilTime) → timed_dashed (date_text d ++ (32 ∷ clock_text t)) ((d.year, (d.month, d.day)), (t.hour, (t.minute, t.second)))
+stamp_printed : (d : CivilDate) (t : CivilTime) → timed_dashed (date_text d ++ (32 ∷ clock_text t))
+    ((d.year, (d.month, d.day)), (t.hour, (t.minute, t.second)))
 stamp_printed d t = (date_text d, clock_text t, refl, dashed_printed d, clock_printed t)
 
 -- whole seconds are in the dashed form
@@ -241,15 +334,24 @@ no_fraction : (nano : ℕ) → nano ≡ 0 → fraction_text nano ≡ []
 unfolding fraction_text
 no_fraction nano e = rw e refl
 
-seconds_printed : (dt : DateTime) → unsigned_abs (offset_seconds dt) < 72_000 → unsigned_abs (offset_seconds dt) % 60 ≡ 0 → nanosecond dt ≡ 0 → dashed_date_time (date_time_text dt) dt
+seconds_printed : (dt : DateTime) → unsigned_abs (offset_seconds dt) < 72_000 → unsigned_abs (offset_seconds dt) % 60 ≡ 0
+    → nanosecond dt ≡ 0 → dashed_date_time (date_time_text dt) dt
 unfolding dashed_date_time
 seconds_printed dt small whole none =
     let d = date_text (civil_date dt) in
     let c = clock_text (civil_time dt) in
     let o = 32 ∷ offset_text (offset_seconds dt) in
     let all : d ++ (32 ∷ (c ++ o)) ≡ (d ++ (32 ∷ c)) ++ o = sym (append_assoc d (32 ∷ c) o) in
-    let text : date_time_text dt ≡ (d ++ (32 ∷ c)) ++ o = ap (λ t. d ++ (32 ∷ (c ++ (t ++ o)))) (no_fraction (nanosecond dt) none) ∙ all in
-    ((d ++ (32 ∷ c), offset_text (offset_seconds dt), text, stamp_printed (civil_date dt) (civil_time dt), offset_printed (offset_seconds dt) small whole), none)
+    let text : date_time_text dt ≡ (d ++ (32 ∷ c)) ++ o = ap (λ t. d ++ (32 ∷ (c ++ (t ++ o)))) (no_fraction (nanosecond dt) none) ∙ all in (
+      (
+        d ++ (32 ∷ c),
+        offset_text (offset_seconds dt),
+        text,
+        stamp_printed (civil_date dt) (civil_time dt),
+        offset_printed (offset_seconds dt) small whole,
+      ),
+      none,
+    )
 
 -- other times have the form with a fraction, and not the dashed form
 fraction_is : (nano : ℕ) (ds : List ℕ) → IsFraction 9 nano ds → fraction_form ds nano
@@ -261,7 +363,9 @@ unfolding fraction_text
 fraction_text_some nano false t some = rw t refl
 fraction_text_some nano true t some = absurd (grind (arith, nat_tests))
 
-with_fraction : (dt : DateTime) → 0 < nanosecond dt → date_time_text dt ≡ (date_text (civil_date dt) ++ (32 ∷ clock_text (civil_time dt))) ++ (46 ∷ (fraction_digits 9 (nanosecond dt) ++ (32 ∷ offset_text (offset_seconds dt))))
+with_fraction : (dt : DateTime) → 0 < nanosecond dt
+    → date_time_text dt ≡ (date_text (civil_date dt) ++ (32 ∷ clock_text (civil_time dt)))
+    ++ (46 ∷ (fraction_digits 9 (nanosecond dt) ++ (32 ∷ offset_text (offset_seconds dt))))
 with_fraction dt some =
     let d = date_text (civil_date dt) in
     let c = clock_text (civil_time dt) in
@@ -270,7 +374,8 @@ with_fraction dt some =
     let all : d ++ (32 ∷ (c ++ (46 ∷ (f ++ o)))) ≡ (d ++ (32 ∷ c)) ++ (46 ∷ (f ++ o)) = sym (append_assoc d (32 ∷ c) (46 ∷ (f ++ o))) in
     ap (λ t. d ++ (32 ∷ (c ++ (t ++ o)))) (fraction_text_some (nanosecond dt) _ refl some) ∙ all
 
-fraction_printed : (dt : DateTime) → unsigned_abs (offset_seconds dt) < 72_000 → unsigned_abs (offset_seconds dt) % 60 ≡ 0 → 0 < nanosecond dt → fraction_date_time (date_time_text dt) dt
+fraction_printed : (dt : DateTime) → unsigned_abs (offset_seconds dt) < 72_000 → unsigned_abs (offset_seconds dt) % 60 ≡ 0
+    → 0 < nanosecond dt → fraction_date_time (date_time_text dt) dt
 unfolding fraction_date_time
 fraction_printed dt small whole some =
     let d = date_text (civil_date dt) in
@@ -280,18 +385,34 @@ fraction_printed dt small whole some =
     let digits = fraction_printed_at 9 (nanosecond dt) some dt.local.time.subsec_in in
     let inner : c ++ (46 ∷ (f ++ o)) ≡ (c ++ (46 ∷ f)) ++ o = sym (append_assoc c (46 ∷ f) o) in
     let outer : d ++ (32 ∷ ((c ++ (46 ∷ f)) ++ o)) ≡ (d ++ (32 ∷ (c ++ (46 ∷ f)))) ++ o = sym (append_assoc d (32 ∷ (c ++ (46 ∷ f))) o) in
-    let text : date_time_text dt ≡ (d ++ (32 ∷ (c ++ (46 ∷ f)))) ++ o = ap (λ t. d ++ (32 ∷ (c ++ (t ++ o)))) (fraction_text_some (nanosecond dt) _ refl some) ∙ ap (λ t. d ++ (32 ∷ t)) inner ∙ outer in
-    (d ++ (32 ∷ (c ++ (46 ∷ f))), offset_text (offset_seconds dt), text, (d, c ++ (46 ∷ f), refl, dashed_printed (civil_date dt), (c, f, refl, clock_printed (civil_time dt), fraction_is (nanosecond dt) f digits)), offset_printed (offset_seconds dt) small whole)
+    let text : date_time_text dt ≡ (d ++ (32 ∷ (c ++ (46 ∷ f)))) ++ o = ap (λ t. d ++ (32 ∷ (c ++ (t ++ o))))
+    (fraction_text_some (nanosecond dt) _ refl some) ∙ ap (λ t. d ++ (32 ∷ t)) inner ∙ outer in (
+      d ++ (32 ∷ (c ++ (46 ∷ f))),
+      offset_text (offset_seconds dt),
+      text,
+      (
+        d,
+        c ++ (46 ∷ f),
+        refl,
+        dashed_printed (civil_date dt),
+        (c, f, refl, clock_printed (civil_time dt), fraction_is (nanosecond dt) f digits),
+      ),
+      offset_printed (offset_seconds dt) small whole,
+    )
 
 not_dashed : (dt b : DateTime) → 0 < nanosecond dt → ¬ (dashed_date_time (date_time_text dt) b)
 unfolding dashed_date_time
 not_dashed dt b some (form, none) =
-    let s = stamped_whole timed_dashed timed_dashed_at timed_dashed_reads true (date_time_text dt) (((civil_date b).year, ((civil_date b).month, (civil_date b).day)), ((civil_time b).hour, ((civil_time b).minute, (civil_time b).second))) (offset_seconds b) form in
+    let s = stamped_whole timed_dashed timed_dashed_at timed_dashed_reads true (date_time_text dt) (
+      ((civil_date b).year, ((civil_date b).month, (civil_date b).day)),
+      ((civil_time b).hour, ((civil_time b).minute, (civil_time b).second)),
+    ) (offset_seconds b) form in
     let d = civil_date dt in
     let t = civil_time dt in
     let following = 46 ∷ (fraction_digits 9 (nanosecond dt) ++ (32 ∷ offset_text (offset_seconds dt))) in
     let v : (ℤ × (ℕ × ℕ)) × (ℕ × (ℕ × ℕ)) = ((d.year, (d.month, d.day)), (t.hour, (t.minute, t.second))) in
-    let read : timed_dashed_at (date_time_text dt) ≡ Some (v, following) = ap timed_dashed_at (with_fraction dt some) ∙ timed_dashed_reads.complete (date_text d ++ (32 ∷ clock_text t)) v following (stamp_printed d t) refl in
+    let read : timed_dashed_at (date_time_text dt) ≡ Some (v, following) = ap timed_dashed_at (with_fraction dt some)
+    ∙ timed_dashed_reads.complete (date_text d ++ (32 ∷ clock_text t)) v following (stamp_printed d t) refl in
     let same = some_pair _ _ _ _ _ _ read s.read refl in
     no_offset (fraction_digits 9 (nanosecond dt) ++ (32 ∷ offset_text (offset_seconds dt))) _ (ap (offset_end true) same.1 ∙ s.ends)
   where
@@ -299,7 +420,8 @@ not_dashed dt b some (form, none) =
     no_offset more z e = cc
 
 -- a printed date time is read back as itself
-forms_printed : (dt : DateTime) (t : Bool) → eqb (nanosecond dt) 0 ≡ t → unsigned_abs (offset_seconds dt) < 72_000 → unsigned_abs (offset_seconds dt) % 60 ≡ 0 → date_time_forms (date_time_text dt) dt
+forms_printed : (dt : DateTime) (t : Bool) → eqb (nanosecond dt) 0 ≡ t → unsigned_abs (offset_seconds dt) < 72_000
+    → unsigned_abs (offset_seconds dt) % 60 ≡ 0 → date_time_forms (date_time_text dt) dt
 forms_printed dt true t small whole = inl (seconds_printed dt small whole (grind (arith, nat_tests)))
 forms_printed dt false t small whole =
     let some : 0 < nanosecond dt = grind (arith, nat_tests) in
@@ -313,7 +435,8 @@ text_ends dt =
     let o = offset_text (offset_seconds dt) in
     let inner : f ++ (32 ∷ o) ≡ (f ++ (32 ∷ [])) ++ o = sym (append_assoc f (32 ∷ []) o) in
     let middle : c ++ ((f ++ (32 ∷ [])) ++ o) ≡ (c ++ (f ++ (32 ∷ []))) ++ o = sym (append_assoc c (f ++ (32 ∷ [])) o) in
-    let outer : d ++ (32 ∷ ((c ++ (f ++ (32 ∷ []))) ++ o)) ≡ (d ++ (32 ∷ (c ++ (f ++ (32 ∷ []))))) ++ o = sym (append_assoc d (32 ∷ (c ++ (f ++ (32 ∷ [])))) o) in
+    let outer : d ++ (32 ∷ ((c ++ (f ++ (32 ∷ []))) ++ o)) ≡ (d ++ (32 ∷ (c ++ (f ++ (32 ∷ []))))) ++ o =
+    sym (append_assoc d (32 ∷ (c ++ (f ++ (32 ∷ [])))) o) in
     (d ++ (32 ∷ (c ++ (f ++ (32 ∷ [])))), ap (λ t. d ++ (32 ∷ (c ++ t))) inner ∙ ap (λ t. d ++ (32 ∷ t)) middle ∙ outer)
 
 -- the text is its year, `-` and more
@@ -325,14 +448,19 @@ text_begins dt =
     let more = 32 ∷ (clock_text (civil_time dt) ++ (fraction_text (nanosecond dt) ++ (32 ∷ offset_text (offset_seconds dt)))) in
     (two_digits d.month ++ (45 ∷ (two_digits d.day ++ more)), append_assoc (year_text d.year) following more)
 
-read_as : (text more : List ℕ) (moment dt : DateTime) → text ≡ year_text (civil_date dt).year ++ (45 ∷ more) → ends_in_offset text ≡ true → date_time_forms text dt → IsDateTimeText text moment dt
+read_as : (text more : List ℕ) (moment dt : DateTime) → text ≡ year_text (civil_date dt).year ++ (45 ∷ more) → ends_in_offset text ≡ true
+    → date_time_forms text dt → IsDateTimeText text moment dt
 read_as text more moment dt e given forms =
     let y = (civil_date dt).year in (
       rw e (year_some y (45 ∷ more)),
-      inr (rw e (year_not_now y (45 ∷ more) (civil_date dt).year_in), inr (λ z number. year_no_number y more (rw (← e) number.0), rw given forms)),
+      inr (
+        rw e (year_not_now y (45 ∷ more) (civil_date dt).year_in),
+        inr (λ z number. year_no_number y more (rw (← e) number.0), rw given forms),
+      ),
     )
 
-pub date_time_read_back : (dt moment : DateTime) → unsigned_abs (offset_seconds dt) < 72_000 → unsigned_abs (offset_seconds dt) % 60 ≡ 0 → IsDateTimeText (date_time_text dt) moment dt
+pub date_time_read_back : (dt moment : DateTime) → unsigned_abs (offset_seconds dt) < 72_000 → unsigned_abs (offset_seconds dt) % 60 ≡ 0
+    → IsDateTimeText (date_time_text dt) moment dt
 date_time_read_back dt moment small whole =
     let (front, end) = text_ends dt in
     let (more, start) = text_begins dt in

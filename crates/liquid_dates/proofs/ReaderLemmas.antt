@@ -6,11 +6,13 @@ use Rattle.liquid_dates.specs.steps.DateReader.{find_name}
 find_suc : (name : ℕ → List ℕ) (front : List ℕ) (n k m : ℕ) → n ≡ suc k → find_name name front n m ≡ find_name name front (suc k) m
 find_suc name front n k m e = rw e
 
-pub find_hit : (name : ℕ → List ℕ) (front : List ℕ) (top m : ℕ) → m < top → bytes_eq (name m) front ≡ true → find_name name front (top - m) m ≡ Some m
+pub find_hit : (name : ℕ → List ℕ) (front : List ℕ) (top m : ℕ) → m < top → bytes_eq (name m) front ≡ true
+    → find_name name front (top - m) m ≡ Some m
 unfolding find_name
 find_hit name front top m h e = find_suc name front (top - m) (top - (m + 1)) m (omega arith) ∙ rw e refl
 
-pub find_miss : (name : ℕ → List ℕ) (front : List ℕ) (top m : ℕ) → m < top → bytes_eq (name m) front ≡ false → find_name name front (top - m) m ≡ find_name name front (top - (m + 1)) (m + 1)
+pub find_miss : (name : ℕ → List ℕ) (front : List ℕ) (top m : ℕ) → m < top → bytes_eq (name m) front ≡ false
+    → find_name name front (top - m) m ≡ find_name name front (top - (m + 1)) (m + 1)
 unfolding find_name
 find_miss name front top m h e = find_suc name front (top - m) (top - (m + 1)) m (omega arith) ∙ rw e refl
 

@@ -1,5 +1,48 @@
 -- The readers of date times read what the forms relate, and nothing else.
-use Rattle.std.proofs.Common.{◌≡◌, ◌⊎◌, inl, inr, ℕ, suc, ◌+◌, ◌-◌, ◌*◌, ◌/◌, ◌%◌, ◌^◌, ◌<◌, ◌≤◌, Bool, true, false, cond, ◌&&◌, List, [], ◌∷◌, ◌++◌, length, refl, sym, ap, ◌∙◌, arith, Option, Some, None, nat_lt, append_assoc, append-nil, ℤ, pos, neg_ℤ, unwrap_or, fold, length-append, get_or}
+use Rattle.std.proofs.Common.{
+  ◌≡◌,
+  ◌⊎◌,
+  inl,
+  inr,
+  ℕ,
+  suc,
+  ◌+◌,
+  ◌-◌,
+  ◌*◌,
+  ◌/◌,
+  ◌%◌,
+  ◌^◌,
+  ◌<◌,
+  ◌≤◌,
+  Bool,
+  true,
+  false,
+  cond,
+  ◌&&◌,
+  List,
+  [],
+  ◌∷◌,
+  ◌++◌,
+  length,
+  refl,
+  sym,
+  ap,
+  ◌∙◌,
+  arith,
+  Option,
+  Some,
+  None,
+  nat_lt,
+  append_assoc,
+  append-nil,
+  ℤ,
+  pos,
+  neg_ℤ,
+  unwrap_or,
+  fold,
+  length-append,
+  get_or,
+}
 use Rattle.std.specs.Option.{option_and_then}
 use Rattle.std.specs.Prelude.{codes}
 use Rattle.std.specs.List.{list_all}
@@ -9,9 +52,73 @@ use Rattle.liquid_dates.specs.meaning.Names.{month_name, short_month_name}
 use Rattle.liquid_dates.specs.meaning.Printed.{two_digits}
 use Rattle.liquid_dates.specs.meaning.Pattern.{begins}
 use Rattle.liquid_dates.specs.meaning.DateText.{with_given_offset}
-use Rattle.liquid_dates.proofs.PairForms.{joined, year_form, month_form, weekday_form, short_day, fraction_form, dashed, day_month, slashed, clock, offset_form, timed_dashed, timed_fraction, timed_day_month, timed_slashed, timed_weekday}
-use Rattle.liquid_dates.specs.steps.DateReader.{Read, after_byte, two_at, year_at, joined_at, whole_of, short_month_at, weekday_at, dashed_at, long_at, short_at, slashed_at, clock_at, hours_at, sign_after, offset_at, or_one_digit, short_day_at, digits_from, fraction_at, timed_dashed_at, timed_fraction_at, timed_long_at, timed_short_at, timed_slashed_at, timed_weekday_at, offset_end}
-use Rattle.liquid_dates.proofs.DateTextLemmas.{Reads, some_pair, bind_some, map_some, after_byte_is, two_sound, two_at_digits, joined_reads, whole_sound, whole_complete, year_reads, weekday_reads, short_month_reads, dashed_reads, long_reads, short_reads, slashed_reads, clock_reads}
+use Rattle.liquid_dates.proofs.PairForms.{
+  joined,
+  year_form,
+  month_form,
+  weekday_form,
+  short_day,
+  fraction_form,
+  dashed,
+  day_month,
+  slashed,
+  clock,
+  offset_form,
+  timed_dashed,
+  timed_fraction,
+  timed_day_month,
+  timed_slashed,
+  timed_weekday,
+}
+use Rattle.liquid_dates.specs.steps.DateReader.{
+  Read,
+  after_byte,
+  two_at,
+  year_at,
+  joined_at,
+  whole_of,
+  short_month_at,
+  weekday_at,
+  dashed_at,
+  long_at,
+  short_at,
+  slashed_at,
+  clock_at,
+  hours_at,
+  sign_after,
+  offset_at,
+  or_one_digit,
+  short_day_at,
+  digits_from,
+  fraction_at,
+  timed_dashed_at,
+  timed_fraction_at,
+  timed_long_at,
+  timed_short_at,
+  timed_slashed_at,
+  timed_weekday_at,
+  offset_end,
+}
+use Rattle.liquid_dates.proofs.DateTextLemmas.{
+  Reads,
+  some_pair,
+  bind_some,
+  map_some,
+  after_byte_is,
+  two_sound,
+  two_at_digits,
+  joined_reads,
+  whole_sound,
+  whole_complete,
+  year_reads,
+  weekday_reads,
+  short_month_reads,
+  dashed_reads,
+  long_reads,
+  short_reads,
+  slashed_reads,
+  clock_reads,
+}
 
 -- an offset
 pub record IsHours (text : List ℕ) (n : ℕ) (rest : List ℕ) : Type 0 where
@@ -31,29 +138,51 @@ hours_sound text n rest e =
     let (u, is₂, g) = two_sound 60 x.1 y.0 y.1 ey in
     let pair = some_pair (x.0 * 3600 + y.0 * 60) n y.1 rest _ _ refl refl e2 in
     let all : text ≡ (s ++ u) ++ rest = is ∙ ap (λ t. s ++ t) (is₂ ∙ ap (λ t. u ++ t) pair.1) ∙ sym (append_assoc s u rest) in
-    record { h = x.0; m = y.0; hours = f.0; minutes = g.0; is = all ∙ ap (λ t. (t ++ u) ++ rest) f.1 ∙ ap (λ t. (two_digits x.0 ++ t) ++ rest) g.1; value = sym pair.0 }
+    record {
+      h = x.0;
+      m = y.0;
+      hours = f.0;
+      minutes = g.0;
+      is = all ∙ ap (λ t. (t ++ u) ++ rest) f.1
+          ∙ ap (λ t. (two_digits x.0 ++ t) ++ rest) g.1;
+      value = sym pair.0;
+    }
 
-hours_digits : (h m : ℕ) (rest : List ℕ) → h < 100 → m < 60 → hours_at ((two_digits h ++ two_digits m) ++ rest) ≡ Some (h * 3600 + m * 60, rest)
+hours_digits : (h m : ℕ) (rest : List ℕ) → h < 100 → m < 60 → hours_at ((two_digits h ++ two_digits m) ++ rest) ≡ Some
+    (h * 3600 + m * 60, rest)
 unfolding hours_at
 hours_digits h m rest a b =
-    rw (append_assoc (two_digits h) (two_digits m) rest, two_at_digits 100 h (two_digits m ++ rest) (omega arith) a, two_at_digits 60 m rest (omega arith) b) refl
+    rw (
+      append_assoc (two_digits h) (two_digits m) rest,
+      two_at_digits 100 h (two_digits m ++ rest) (omega arith) a,
+      two_at_digits 60 m rest (omega arith) b,
+    ) refl
 
-offset_sound : (text : List ℕ) (plus minus : Option (List ℕ)) → after_byte 43 text ≡ plus → after_byte 45 text ≡ minus → (z : ℤ) (rest : List ℕ) → sign_after plus minus ≡ Some (z, rest) → (front : List ℕ) × (text ≡ front ++ rest) × offset_form front z
+offset_sound : (text : List ℕ) (plus minus : Option (List ℕ)) → after_byte 43 text ≡ plus → after_byte 45 text ≡ minus
+    → (z : ℤ) (rest : List ℕ) → sign_after plus minus ≡ Some (z, rest) → (front : List ℕ) × (text ≡ front ++ rest) × offset_form front z
 offset_sound text None None p q z rest e = cc
 offset_sound text (Some following) minus p q z rest e =
     let (x, ex, e1) = map_some (hours_at following) _ _ e in
     let pair = some_pair (pos x.0) z x.1 rest (Some (pos x.0, x.1)) (Some (z, rest)) refl refl (ap Some e1) in
     let s = hours_sound following x.0 x.1 ex in
-    let digits = two_digits s.h ++ two_digits s.m in
-    (43 ∷ digits, after_byte_is 43 text following p ∙ ap (λ t. 43 ∷ t) (s.is ∙ ap (λ t. digits ++ t) pair.1), (s.h, s.m, s.hours, s.minutes, inl (refl, sym pair.0 ∙ ap pos s.value)))
+    let digits = two_digits s.h ++ two_digits s.m in (
+      43 ∷ digits,
+      after_byte_is 43 text following p ∙ ap (λ t. 43 ∷ t) (s.is ∙ ap (λ t. digits ++ t) pair.1),
+      (s.h, s.m, s.hours, s.minutes, inl (refl, sym pair.0 ∙ ap pos s.value)),
+    )
 offset_sound text None (Some following) p q z rest e =
     let (x, ex, e1) = map_some (hours_at following) _ _ e in
     let pair = some_pair (neg_ℤ (pos x.0)) z x.1 rest (Some (neg_ℤ (pos x.0), x.1)) (Some (z, rest)) refl refl (ap Some e1) in
     let s = hours_sound following x.0 x.1 ex in
-    let digits = two_digits s.h ++ two_digits s.m in
-    (45 ∷ digits, after_byte_is 45 text following q ∙ ap (λ t. 45 ∷ t) (s.is ∙ ap (λ t. digits ++ t) pair.1), (s.h, s.m, s.hours, s.minutes, inr (refl, sym pair.0 ∙ ap (λ n. neg_ℤ (pos n)) s.value)))
+    let digits = two_digits s.h ++ two_digits s.m in (
+      45 ∷ digits,
+      after_byte_is 45 text following q ∙ ap (λ t. 45 ∷ t) (s.is ∙ ap (λ t. digits ++ t) pair.1),
+      (s.h, s.m, s.hours, s.minutes, inr (refl, sym pair.0 ∙ ap (λ n. neg_ℤ (pos n)) s.value)),
+    )
 
-offset_complete : (front : List ℕ) (z : ℤ) (rest : List ℕ) (h m : ℕ) → h < 100 → m < 60 → ((front ≡ 43 ∷ (two_digits h ++ two_digits m)) × (z ≡ pos (h * 3600 + m * 60))) ⊎ ((front ≡ 45 ∷ (two_digits h ++ two_digits m)) × (z ≡ neg_ℤ (pos (h * 3600 + m * 60)))) → offset_at (front ++ rest) ≡ Some (z, rest)
+offset_complete : (front : List ℕ) (z : ℤ) (rest : List ℕ) (h m : ℕ) → h < 100 → m < 60
+    → ((front ≡ 43 ∷ (two_digits h ++ two_digits m)) × (z ≡ pos (h * 3600 + m * 60))) ⊎
+    ((front ≡ 45 ∷ (two_digits h ++ two_digits m)) × (z ≡ neg_ℤ (pos (h * 3600 + m * 60)))) → offset_at (front ++ rest) ≡ Some (z, rest)
 unfolding offset_at
 offset_complete front z rest h m a b (inl (is, value)) = rw (is, value, hours_digits h m rest a b) refl
 offset_complete front z rest h m a b (inr (is, value)) = rw (is, value, hours_digits h m rest a b) refl
@@ -66,7 +195,8 @@ offset_reads = record {
 }
 
 -- a day of one or two digits
-one_digit_sound : (c n : ℕ) (cs rest : List ℕ) (t : Bool) → is_digit c ≡ t → cond {A = Read ℕ} t (Some (c - 48, cs)) None ≡ Some (n, rest) → (n < 10) × (c ∷ cs ≡ (48 + n) ∷ rest)
+one_digit_sound : (c n : ℕ) (cs rest : List ℕ) (t : Bool) → is_digit c ≡ t → cond {A = Read ℕ} t (Some (c - 48, cs)) None ≡ Some
+    (n, rest) → (n < 10) × (c ∷ cs ≡ (48 + n) ∷ rest)
 one_digit_sound c n cs rest false t e = cc
 one_digit_sound c n cs rest true t e =
     let pair = some_pair (c - 48) n cs rest _ _ refl refl e in
@@ -74,7 +204,8 @@ one_digit_sound c n cs rest true t e =
     let is : c ≡ 48 + n = omega (arith, pair.0) in
     (omega (arith, pair.0), rw (is, pair.1) refl)
 
-short_day_sound : (text : List ℕ) (o : Read ℕ) → two_at 100 text ≡ o → (n : ℕ) (rest : List ℕ) → or_one_digit o text ≡ Some (n, rest) → (front : List ℕ) × (text ≡ front ++ rest) × short_day front n
+short_day_sound : (text : List ℕ) (o : Read ℕ) → two_at 100 text ≡ o → (n : ℕ) (rest : List ℕ) → or_one_digit o text ≡ Some (n, rest)
+    → (front : List ℕ) × (text ≡ front ++ rest) × short_day front n
 short_day_sound text (Some x) t n rest e =
     let (s, is, f) = two_sound 100 text n rest (t ∙ e) in (s, is, inr f)
 short_day_sound [] None t n rest e = cc
@@ -85,14 +216,16 @@ one_digit_alone : (n : ℕ) (rest : List ℕ) → begins is_digit rest ≡ false
 unfolding two_at
 one_digit_alone n [] ends = refl
 one_digit_alone n (c ∷ cs) ends =
-    let test : (is_digit (48 + n) && (is_digit c && nat_lt (10 * (48 + n - 48) + (c - 48)) 100)) ≡ false = rw ends (and_false (is_digit (48 + n))) in
+    let test : (is_digit (48 + n) && (is_digit c && nat_lt (10 * (48 + n - 48) + (c - 48)) 100)) ≡ false =
+    rw ends (and_false (is_digit (48 + n))) in
     rw test refl
   where
     and_false : (b : Bool) → (b && false) ≡ false
     and_false true = refl
     and_false false = refl
 
-short_day_complete : (front : List ℕ) (n : ℕ) (rest : List ℕ) → short_day front n → begins is_digit rest ≡ false → short_day_at (front ++ rest) ≡ Some (n, rest)
+short_day_complete : (front : List ℕ) (n : ℕ) (rest : List ℕ) → short_day front n → begins is_digit rest ≡ false
+    → short_day_at (front ++ rest) ≡ Some (n, rest)
 unfolding short_day_at
 short_day_complete front n rest (inl (small, is)) ends =
     let digit : is_digit (48 + n) ≡ true = grind (arith, nat_tests) in
@@ -118,11 +251,20 @@ record IsDigits (count value : ℕ) (text : List ℕ) (r : (ℕ × ℕ) × List 
   count_is : r.0.0 ≡ count + length digits
   value_is : r.0.1 ≡ fold add_digit value digits
 
-digits_test : (count value c : ℕ) (cs : List ℕ) (t : Bool) → (is_digit c && nat_lt count 10) ≡ t → IsDigits (count + 1) (add_digit value c) cs (digits_from (count + 1) (add_digit value c) cs) → IsDigits count value (c ∷ cs) (cond t (digits_from (count + 1) (add_digit value c) cs) ((count, value), c ∷ cs))
+digits_test : (count value c : ℕ) (cs : List ℕ) (t : Bool) → (is_digit c && nat_lt count 10) ≡ t
+    → IsDigits (count + 1) (add_digit value c) cs (digits_from (count + 1) (add_digit value c) cs)
+    → IsDigits count value (c ∷ cs) (cond t (digits_from (count + 1) (add_digit value c) cs) ((count, value), c ∷ cs))
 digits_test count value c cs false t more = record { digits = []; is = refl; passes = refl; count_is = omega arith; value_is = refl }
 digits_test count value c cs true t more =
     let digit : is_digit c ≡ true = grind (arith, nat_tests) in
-    record { digits = c ∷ more.digits; is = ap (λ u. c ∷ u) more.is; passes = rw digit more.passes; count_is = omega (arith, more.count_is); value_is = more.value_is }
+    record {
+      digits = c ∷ more.digits;
+      is = ap (λ u. c ∷ u) more.is;
+      passes = rw digit more.passes;
+      count_is =
+          omega (arith, more.count_is);
+      value_is = more.value_is;
+    }
 
 digits_sound : (text : List ℕ) (count value : ℕ) → IsDigits count value text (digits_from count value text)
 digits_sound [] count value = record { digits = []; is = refl; passes = refl; count_is = omega arith; value_is = refl }
@@ -136,7 +278,8 @@ and_second : (a b : Bool) → (a && b) ≡ true → b ≡ true
 and_second true b e = e
 and_second false b e = cc
 
-digits_complete : (ds : List ℕ) (count value : ℕ) (rest : List ℕ) → list_all is_digit ds ≡ true → count + length ds ≤ 10 → begins is_digit rest ≡ false → digits_from count value (ds ++ rest) ≡ ((count + length ds, fold add_digit value ds), rest)
+digits_complete : (ds : List ℕ) (count value : ℕ) (rest : List ℕ) → list_all is_digit ds ≡ true → count + length ds ≤ 10
+    → begins is_digit rest ≡ false → digits_from count value (ds ++ rest) ≡ ((count + length ds, fold add_digit value ds), rest)
 digits_complete [] count value [] passes small ends = let e : count + 0 ≡ count = omega arith in rw e refl
 digits_complete [] count value (c ∷ cs) passes small ends = let e : count + 0 ≡ count = omega arith in rw (ends, e) refl
 digits_complete (d ∷ ds) count value rest passes small ends =
@@ -145,13 +288,16 @@ digits_complete (d ∷ ds) count value rest passes small ends =
     let e : count + 1 + length ds ≡ count + suc (length ds) = omega arith in
     rw (first, low) (digits_complete ds (count + 1) (add_digit value d) rest (and_second _ _ passes) (omega arith) ends ∙ rw e refl)
 
-fraction_end : (count value : ℕ) (r rest : List ℕ) (n : ℕ) (t : Bool) → (nat_lt 0 count && nat_lt count 10) ≡ t → cond {A = Read ℕ} t (Some (value * 10 ^ (9 - count), r)) None ≡ Some (n, rest) → (1 ≤ count) × (count ≤ 9) × (n ≡ value * 10 ^ (9 - count)) × (r ≡ rest)
+fraction_end : (count value : ℕ) (r rest : List ℕ) (n : ℕ) (t : Bool) → (nat_lt 0 count && nat_lt count 10) ≡ t
+    → cond {A = Read ℕ} t (Some (value * 10 ^ (9 - count), r)) None ≡ Some (n, rest) → (1 ≤ count) × (count ≤ 9)
+    × (n ≡ value * 10 ^ (9 - count)) × (r ≡ rest)
 fraction_end count value r rest n false t e = cc
 fraction_end count value r rest n true t e =
     let pair = some_pair (value * 10 ^ (9 - count)) n r rest _ _ refl refl e in
     (grind (arith, nat_tests), grind (arith, nat_tests), sym pair.0, pair.1)
 
-fraction_sound : (text : List ℕ) (n : ℕ) (rest : List ℕ) → fraction_at text ≡ Some (n, rest) → (front : List ℕ) × (text ≡ front ++ rest) × fraction_form front n
+fraction_sound : (text : List ℕ) (n : ℕ) (rest : List ℕ) → fraction_at text ≡ Some (n, rest) → (front : List ℕ) × (text ≡ front ++ rest)
+    × fraction_form front n
 unfolding fraction_at digits_number
 fraction_sound text n rest e =
     let d = digits_sound text 0 0 in
@@ -159,7 +305,8 @@ fraction_sound text n rest e =
     let count : length d.digits ≡ (digits_from 0 0 text).0.0 = omega (arith, d.count_is) in
     (d.digits, d.is ∙ ap (λ t. d.digits ++ t) f.3, (d.passes, (omega (arith, f.0), omega (arith, f.1)), f.2 ∙ rw (count, d.value_is) refl))
 
-fraction_complete : (front : List ℕ) (n : ℕ) (rest : List ℕ) → fraction_form front n → begins is_digit rest ≡ false → fraction_at (front ++ rest) ≡ Some (n, rest)
+fraction_complete : (front : List ℕ) (n : ℕ) (rest : List ℕ) → fraction_form front n → begins is_digit rest ≡ false
+    → fraction_at (front ++ rest) ≡ Some (n, rest)
 unfolding fraction_at digits_number
 fraction_complete front n rest (passes, within, value) ends =
     let d = digits_complete front 0 0 rest passes (omega (arith, within.1)) ends in
@@ -198,7 +345,8 @@ unfolding timed_weekday_at
 timed_weekday_reads =
     joined_reads weekday_form weekday_at 32 (joined (month_form short_month_name) 32 (joined short_day 32 (joined clock 32 year_form)))
     (joined_at short_month_at 32 (joined_at short_day_at 32 (joined_at clock_at 32 year_at))) weekday_reads
-    (joined_reads (month_form short_month_name) short_month_at 32 (joined short_day 32 (joined clock 32 year_form)) (joined_at short_day_at 32 (joined_at clock_at 32 year_at)) short_month_reads
+    (joined_reads (month_form short_month_name) short_month_at 32 (joined short_day 32 (joined clock 32 year_form))
+    (joined_at short_day_at 32 (joined_at clock_at 32 year_at)) short_month_reads
     (joined_reads short_day short_day_at 32 (joined clock 32 year_form) (joined_at clock_at 32 year_at) short_day_reads
     (joined_reads clock clock_at 32 year_form year_at clock_reads year_reads refl) refl) refl) refl
 
@@ -229,12 +377,15 @@ zero_offset z (h, m, a, b, inr (is, value)) =
     absurd (signs_apart 43 45 (ap (λ (t : List ℕ). get_or t 0 0) is) refl refl)
 
 -- a stamp and its offset are the joined form of the text, with its own offset or the one added to it
-pub stamped_found : {A : Type 0} (F : List ℕ → A → Type 0) (r : List ℕ → Read A) → Reads F r → (given : Bool) (text : List ℕ) (a : A) (rest : List ℕ) (z : ℤ) → r text ≡ Some (a, rest) → offset_end given rest ≡ Some z → joined F 32 offset_form (with_given_offset given text) (a, z)
+pub stamped_found : {A : Type 0} (F : List ℕ → A → Type 0) (r : List ℕ → Read A) → Reads F r
+    → (given : Bool) (text : List ℕ) (a : A) (rest : List ℕ) (z : ℤ) → r text ≡ Some (a, rest) → offset_end given rest ≡ Some z
+    → joined F 32 offset_form (with_given_offset given text) (a, z)
 stamped_found F r reads true text a rest z e o =
     let (s, is, f) = reads.sound text a rest e in
     by_space (after_byte 32 rest) refl o
   where
-    by_space : (more : Option (List ℕ)) → after_byte 32 rest ≡ more → whole_of (option_and_then offset_at more) ≡ Some z → joined F 32 offset_form text (a, z)
+    by_space : (more : Option (List ℕ)) → after_byte 32 rest ≡ more → whole_of (option_and_then offset_at more) ≡ Some z
+        → joined F 32 offset_form text (a, z)
     by_space None t o = cc
     by_space (Some more) t o =
         let (s, is, f) = reads.sound text a rest e in
@@ -251,7 +402,9 @@ pub record IsStampRead {A : Type 0} (r : List ℕ → Read A) (given : Bool) (te
   pub read : r text ≡ Some (a, rest)
   pub ends : offset_end given rest ≡ Some z
 
-pub stamped_whole : {A : Type 0} (F : List ℕ → A → Type 0) (r : List ℕ → Read A) → Reads F r → (given : Bool) (text : List ℕ) (a : A) (z : ℤ) → joined F 32 offset_form (with_given_offset given text) (a, z) → IsStampRead r given text a z
+pub stamped_whole : {A : Type 0} (F : List ℕ → A → Type 0) (r : List ℕ → Read A) → Reads F r
+    → (given : Bool) (text : List ℕ) (a : A) (z : ℤ) → joined F 32 offset_form (with_given_offset given text) (a, z)
+    → IsStampRead r given text a z
 stamped_whole F r reads true text a z (s, u, is, f, o) = record {
   rest = 32 ∷ u;
   read = rw is (reads.complete s a (32 ∷ u) f refl);
@@ -269,8 +422,10 @@ stamped_whole F r reads false text a z (s, u, is, f, o) =
     length_offset u z (h, m, a, b, inr (is, value)) = ap length is
 
 -- a text has one value of a form with an offset
-pub joined_once : {A : Type 0} (F : List ℕ → A → Type 0) (r : List ℕ → Read A) → Reads F r → (text : List ℕ) (a b : A) (y z : ℤ) → joined F 32 offset_form text (a, y) → joined F 32 offset_form text (b, z) → (a ≡ b) × (y ≡ z)
+pub joined_once : {A : Type 0} (F : List ℕ → A → Type 0) (r : List ℕ → Read A) → Reads F r → (text : List ℕ) (a b : A) (y z : ℤ)
+    → joined F 32 offset_form text (a, y) → joined F 32 offset_form text (b, z) → (a ≡ b) × (y ≡ z)
 joined_once {A = A} F r reads text a b y z h k =
     let both = joined_reads F r 32 offset_form offset_at reads offset_reads refl in
-    let e = sym (whole_complete (joined F 32 offset_form) (joined_at r 32 offset_at) both text (a, y) h) ∙ whole_complete (joined F 32 offset_form) (joined_at r 32 offset_at) both text (b, z) k in
+    let e = sym (whole_complete (joined F 32 offset_form) (joined_at r 32 offset_at) both text (a, y) h)
+    ∙ whole_complete (joined F 32 offset_form) (joined_at r 32 offset_at) both text (b, z) k in
     (ap (λ (o : Option (A × ℤ)). (unwrap_or o (a, y)).0) e, ap (λ (o : Option (A × ℤ)). (unwrap_or o (a, y)).1) e)

@@ -9,17 +9,20 @@ use Rattle.liquid_error.specs.declared.report.Report.{Report}
 use Rattle.liquid_error.specs.meaning.Refusal.{Refusal, Reason, with_cause}
 use Rattle.liquid_error.specs.meaning.Told.{told, reason_of, refusal_of}
 
-pub told_caused : (report : Report) (cause : CauseOf Error) → told (Liquid report (Some cause)) ≡ Some (with_cause (reason_of cause) (refusal_of report))
+pub told_caused : (report : Report) (cause : CauseOf Error) → told (Liquid report (Some cause)) ≡ Some
+    (with_cause (reason_of cause) (refusal_of report))
 told_caused report (cause_of.Error e) = search (rules, the_lemmas)
 told_caused report (cause_of.Cloneable e) = search (rules, the_lemmas)
 
-pub told_recaused : (report : Report) (old : Option (CauseOf Error)) (r : Reason) → option_map (with_cause r) (told (Liquid report old)) ≡ Some (with_cause r (refusal_of report))
+pub told_recaused : (report : Report) (old : Option (CauseOf Error)) (r : Reason)
+    → option_map (with_cause r) (told (Liquid report old)) ≡ Some (with_cause r (refusal_of report))
 told_recaused report None r = search (rules, the_lemmas)
 told_recaused report (Some (cause_of.Error e)) r = search (rules, the_lemmas)
 told_recaused report (Some (cause_of.Cloneable e)) r = search (rules, the_lemmas)
 
 -- two errors whose reports and causes mean the same say the same
-pub copied_cause : (old new : Report) (a b : CauseOf Error) → refusal_of new ≡ refusal_of old → reason_of b ≡ reason_of a → told (Liquid new (Some b)) ≡ told (Liquid old (Some a))
+pub copied_cause : (old new : Report) (a b : CauseOf Error) → refusal_of new ≡ refusal_of old → reason_of b ≡ reason_of a
+    → told (Liquid new (Some b)) ≡ told (Liquid old (Some a))
 copied_cause old new a b reports causes =
     told_caused new b
     ∙ ap₂ (λ (r : Refusal) (reason : Reason). Some (with_cause reason r)) reports causes

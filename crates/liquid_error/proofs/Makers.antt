@@ -9,7 +9,9 @@ weaken : {A : Type 0} (P Q : A → Type 0) → ((x : A) → P x → Q x) → (o 
 weaken P Q f None h = tt
 weaken P Q f (Some x) h = f x h
 
-pub changed_by : {T M : Type 0} (Made : M → Type 0) (change : M → Refusal → Refusal) (before : Result T Error) (old new : Error) (made : M) → before ≡ Err old → Made made → Becomes (change made) old new → ErrBecomesBy Made change before (Err new)
+pub changed_by : {T M : Type 0} (Made : M → Type 0) (change : M → Refusal → Refusal) (before : Result T Error) (old new : Error)
+    (made : M) → before ≡ Err old → Made made → Becomes (change made) old new → ErrBecomesBy Made change before (Err new)
 changed_by {T} {M} Made change before old new made is m becomes =
     let P : Result T Error → Type 0 = λ b. ErrBecomesBy Made change b (Err new) in
-    subst P (sym is) (weaken (λ (r : Refusal). option_map (change made) (told old) ≡ Some r) (λ (r : Refusal). (by : M) × Made by × (option_map (change by) (told old) ≡ Some r)) (λ r e. (made, m, e)) (told new) becomes)
+    subst P (sym is) (weaken (λ (r : Refusal). option_map (change made) (told old) ≡ Some r)
+    (λ (r : Refusal). (by : M) × Made by × (option_map (change by) (told old) ≡ Some r)) (λ r e. (made, m, e)) (told new) becomes)

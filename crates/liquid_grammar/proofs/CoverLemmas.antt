@@ -1,5 +1,45 @@
 -- The elements of a text: there is one at each place, and so each text has one cover.
-use Rattle.std.proofs.Common.{◌≡◌, ℕ, zero, suc, ◌-◌, ◌<◌, ◌≤◌, Bool, true, false, List, [], ◌∷◌, ◌++◌, length, take, drop, Option, Some, None, is_some, option_map, refl, sym, ap, ap₂, ◌∙◌, inl, inr, subst, arith, take_at, drop_at, length-append, append_assoc, eqb-true, take-append-drop, length-take-le, length-drop}
+use Rattle.std.proofs.Common.{
+  ◌≡◌,
+  ℕ,
+  zero,
+  suc,
+  ◌-◌,
+  ◌<◌,
+  ◌≤◌,
+  Bool,
+  true,
+  false,
+  List,
+  [],
+  ◌∷◌,
+  ◌++◌,
+  length,
+  take,
+  drop,
+  Option,
+  Some,
+  None,
+  is_some,
+  option_map,
+  refl,
+  sym,
+  ap,
+  ap₂,
+  ◌∙◌,
+  inl,
+  inr,
+  subst,
+  arith,
+  take_at,
+  drop_at,
+  length-append,
+  append_assoc,
+  eqb-true,
+  take-append-drop,
+  length-take-le,
+  length-drop,
+}
 use Rattle.std.proofs.lemmas.Bool.{cases_lt}
 use Rattle.std.proofs.lemmas.List.{append_cancel_right}
 use Rattle.std.proofs.lemmas.Option.{same_Some, none-some}
@@ -7,7 +47,21 @@ use Rattle.std.specs.Option.{option_or}
 use Rattle.liquid_grammar.specs.meaning.Bytes.{is_white}
 use Rattle.liquid_grammar.specs.meaning.Rules.{Begins, One, here, instead, ends, Byte}
 use Rattle.liquid_grammar.specs.meaning.Grammar.{White, Braces, Opener, Opens, AnyOpener, LoneBrace}
-use Rattle.liquid_grammar.specs.meaning.Cover.{Element, raw, tag_element, expression, invalid, text_of, Raw, IsElement, Cover, done, next, OnlyCover, joined}
+use Rattle.liquid_grammar.specs.meaning.Cover.{
+  Element,
+  raw,
+  tag_element,
+  expression,
+  invalid,
+  text_of,
+  Raw,
+  IsElement,
+  Cover,
+  done,
+  next,
+  OnlyCover,
+  joined,
+}
 use Rattle.liquid_grammar.specs.declared.element.Element.{Element as CodeElement}
 use Rattle.liquid_grammar.specs.meaning.Elements.{Taken, Means}
 use Rattle.liquid_grammar.specs.meaning.Tokens.{Tag, Chain, TagRule, ExpressionRule}
@@ -114,7 +168,8 @@ taken e rest = (e, rest)
 
 -- at most one element begins at a place
 pub same_element : (s r₁ r₂ : List ℕ) (e₁ e₂ : Element) → IsElement s r₁ e₁ → IsElement s r₂ e₂ → ◌≡◌ {A = Taken} (e₁, r₁) (e₂, r₂)
-same_element s r₁ r₂ (raw t₁) (raw t₂) a b = let q = same_raw s r₁ r₂ t₁ t₂ a.joined b.joined a.kind b.kind in ap₂ (λ x y. taken (raw x) y) q.0 q.1
+same_element s r₁ r₂ (raw t₁) (raw t₂) a b = let q = same_raw s r₁ r₂ t₁ t₂ a.joined b.joined a.kind b.kind in ap₂
+    (λ x y. taken (raw x) y) q.0 q.1
 same_element s r₁ r₂ (raw t₁) (tag_element n₂ t₂) a b = absurd (raw_closed s r₁ t₁ a.kind (tag_opens s r₂ n₂ b.kind))
 same_element s r₁ r₂ (raw t₁) (expression n₂ t₂) a b = absurd (raw_closed s r₁ t₁ a.kind (expression_opens s r₂ n₂ b.kind.match))
 same_element s r₁ r₂ (raw t₁) (invalid t₂) a b = absurd (raw_closed s r₁ t₁ a.kind b.kind.opens)
@@ -133,10 +188,12 @@ same_element s r₁ r₂ (expression n₁ t₁) (expression n₂ t₂) a b =
     let rests = ap (λ (x : Chain × List ℕ). x.1) q in
     let texts = same_front s t₁ t₂ r₂ (a.joined ∙ ap (λ x. t₁ ++ x) rests) b.joined in
     ap₂ (λ x y. taken (expression x t₁) y) (ap (λ (x : Chain × List ℕ). x.0) q) rests ∙ ap (λ x. taken (expression n₂ x) r₂) texts
-same_element s r₁ r₂ (expression n₁ t₁) (invalid t₂) a b = absurd (b.kind.no_expression (record { rest = r₁; shape = n₁; match = a.kind.match }))
+same_element s r₁ r₂ (expression n₁ t₁) (invalid t₂) a b =
+    absurd (b.kind.no_expression (record { rest = r₁; shape = n₁; match = a.kind.match }))
 same_element s r₁ r₂ (invalid t₁) (raw t₂) a b = absurd (raw_closed s r₂ t₂ b.kind a.kind.opens)
 same_element s r₁ r₂ (invalid t₁) (tag_element n₂ t₂) a b = absurd (a.kind.no_tag (record { rest = r₂; shape = n₂; match = b.kind }))
-same_element s r₁ r₂ (invalid t₁) (expression n₂ t₂) a b = absurd (a.kind.no_expression (record { rest = r₂; shape = n₂; match = b.kind.match }))
+same_element s r₁ r₂ (invalid t₁) (expression n₂ t₂) a b =
+    absurd (a.kind.no_expression (record { rest = r₂; shape = n₂; match = b.kind.match }))
 same_element s r₁ r₂ (invalid t₁) (invalid t₂) a b =
     let q = same_match exact-lone_brace s r₁ r₂ t₁ t₂ a.kind.brace b.kind.brace in
     ap₂ (λ x y. taken (invalid x) y) (ap (λ (x : List ℕ × List ℕ). x.0) q) (ap (λ (x : List ℕ × List ℕ). x.1) q)
@@ -149,7 +206,8 @@ pub expression_ends : (s rest : List ℕ) (chain : Chain) → ExpressionRule s r
 expression_ends s rest chain m = before_end s rest (exact-full_expression.cuts s rest chain m)
 
 -- the tag and the expression that the readers find
-pub tag_found : (s name tokens rest : List ℕ) (fault : Option Fault) → ◌≡◌ {A = Option TagSeen} (Some (name, tokens, fault, rest)) (option_map tag_seen (read_tag s))
+pub tag_found : (s name tokens rest : List ℕ) (fault : Option Fault) → ◌≡◌ {A = Option TagSeen} (Some (name, tokens, fault, rest))
+    (option_map tag_seen (read_tag s))
     → (tag : Tag) × TagRule s rest tag × (name ≡ tag.0) × (tokens ≡ tag.1.place) × (fault ≡ tag_fault tag)
 tag_found s name tokens rest fault e = go (read_tag s) refl e
   where
@@ -165,11 +223,14 @@ tag_found s name tokens rest fault e = go (read_tag s) refl e
 abbrev kind_seen : Chain × List ℕ → Kind
 kind_seen a = chain_kind a.0.what.0 a.0.what.1
 
-pub expression_found : (s chain rest : List ℕ) (kind : Kind) (fault : Option Fault) → Some kind ≡ option_map kind_seen (full_expression s) → ◌≡◌ {A = Option ChainSeen} (Some (chain, fault, rest)) (option_map chain_seen (full_expression s))
+pub expression_found : (s chain rest : List ℕ) (kind : Kind) (fault : Option Fault)
+    → Some kind ≡ option_map kind_seen (full_expression s) → ◌≡◌ {A = Option ChainSeen} (Some (chain, fault, rest))
+    (option_map chain_seen (full_expression s))
     → (c : Chain) × ExpressionRule s rest c × (chain ≡ c.place) × (fault ≡ chain_fault c) × (kind ≡ chain_kind c.what.0 c.what.1)
 expression_found s chain rest kind fault k e = go (full_expression s) refl k e
   where
-    go : (o : Option (Chain × List ℕ)) → full_expression s ≡ o → Some kind ≡ option_map kind_seen o → ◌≡◌ {A = Option ChainSeen} (Some (chain, fault, rest)) (option_map chain_seen o)
+    go : (o : Option (Chain × List ℕ)) → full_expression s ≡ o → Some kind ≡ option_map kind_seen o
+        → ◌≡◌ {A = Option ChainSeen} (Some (chain, fault, rest)) (option_map chain_seen o)
         → (c : Chain) × ExpressionRule s rest c × (chain ≡ c.place) × (fault ≡ chain_fault c) × (kind ≡ chain_kind c.what.0 c.what.1)
     go None h k q = absurd (none-some _ (sym q))
     go (Some x) h k q =
@@ -185,18 +246,22 @@ pub no_expression : (s : List ℕ) → ◌≡◌ {A = Option ChainSeen} None (op
 no_expression s e b = none-some _ (e ∙ ap (option_map chain_seen) (exact-full_expression.complete s b.rest b.shape b.match))
 
 -- the elements that begin with an opener
-pub tag_element_is : (s rest : List ℕ) (tag : Tag) → TagRule s rest tag → IsElement s rest (tag_element tag (take (length s - length rest) s))
+pub tag_element_is : (s rest : List ℕ) (tag : Tag) → TagRule s rest tag → IsElement s rest
+    (tag_element tag (take (length s - length rest) s))
 tag_element_is s rest tag m = record { joined = tag_ends s rest tag m; kind = m }
 
-pub expression_is : (s rest : List ℕ) (chain : Chain) → ¬ (Begins TagRule s) → ExpressionRule s rest chain → IsElement s rest (expression chain (take (length s - length rest) s))
+pub expression_is : (s rest : List ℕ) (chain : Chain) → ¬ (Begins TagRule s) → ExpressionRule s rest chain
+    → IsElement s rest (expression chain (take (length s - length rest) s))
 expression_is s rest chain none m = record { joined = expression_ends s rest chain m; kind = record { no_tag = none; match = m } }
 
-pub invalid_is : (s rest text : List ℕ) → Opens s → ¬ (Begins TagRule s) → ¬ (Begins ExpressionRule s) → read.lone_brace s ≡ Some (text, rest) → IsElement s rest (invalid text)
+pub invalid_is : (s rest text : List ℕ) → Opens s → ¬ (Begins TagRule s) → ¬ (Begins ExpressionRule s)
+    → read.lone_brace s ≡ Some (text, rest) → IsElement s rest (invalid text)
 invalid_is s rest text o no_tag no_expression e =
     let brace = exact-lone_brace.sound s rest text e in
     record { joined = brace.front; kind = record { opens = o; no_tag = no_tag; no_expression = no_expression; brace = brace } }
 
-pub raw_element : (s : List ℕ) (n : ℕ) → 0 < n → n ≤ length s → ((k : ℕ) → k < n → ¬ (Opens (drop k s))) → (n < length s → Opens (drop n s)) → IsElement s (drop n s) (raw (take n s))
+pub raw_element : (s : List ℕ) (n : ℕ) → 0 < n → n ≤ length s → ((k : ℕ) → k < n → ¬ (Opens (drop k s)))
+    → (n < length s → Opens (drop n s)) → IsElement s (drop n s) (raw (take n s))
 raw_element s n some within closed stops =
     let len : length (take n s) ≡ n = length-take-le n s within in
     record {
@@ -223,14 +288,25 @@ opened_next s o = by_tag (read_tag s) refl
   where
     brace : ¬ (Begins TagRule s) → ¬ (Begins ExpressionRule s) → Next s
     brace t c =
-        option_cases (read.lone_brace s) (λ x e. record { element = invalid x.0; rest = x.1; is = invalid_is s x.1 x.0 o t c e }) (λ e. absurd (brace_found s o e))
+        option_cases (read.lone_brace s) (λ x e. record { element = invalid x.0; rest = x.1; is = invalid_is s x.1 x.0 o t c e })
+        (λ e. absurd (brace_found s o e))
 
     by_expression : ¬ (Begins TagRule s) → (r : Option (Chain × List ℕ)) → full_expression s ≡ r → Next s
-    by_expression t (Some x) e = record { element = expression x.0 (take (length s - length x.1) s); rest = x.1; is = expression_is s x.1 x.0 t (exact-full_expression.sound s x.1 x.0 e) }
+    by_expression t (Some x) e = record {
+      element = expression x.0 (take (length s - length x.1) s);
+      rest = x.1;
+      is =
+          expression_is s x.1 x.0 t (exact-full_expression.sound s x.1 x.0 e);
+    }
     by_expression t None e = brace t (none_begins exact-full_expression s e)
 
     by_tag : (r : Option (Tag × List ℕ)) → read_tag s ≡ r → Next s
-    by_tag (Some x) e = record { element = tag_element x.0 (take (length s - length x.1) s); rest = x.1; is = tag_element_is s x.1 x.0 (exact-tag.sound s x.1 x.0 e) }
+    by_tag (Some x) e = record {
+      element = tag_element x.0 (take (length s - length x.1) s);
+      rest = x.1;
+      is =
+          tag_element_is s x.1 x.0 (exact-tag.sound s x.1 x.0 e);
+    }
     by_tag None e = by_expression (none_begins exact-tag s e) (full_expression s) refl
 
 -- what raw text is, except that it is cut between characters
@@ -255,7 +331,8 @@ raw_ends (b ∷ s) = go (opens (b ∷ s)) refl (raw_ends s)
           },
         )
       where
-        closed_after : (k : ℕ) → k < suc more_of.0 → opens (b ∷ s) ≡ false → ((j : ℕ) → j < more_of.0 → ¬ (Opens (drop j s))) → ¬ (Opens (drop k (b ∷ s)))
+        closed_after : (k : ℕ) → k < suc more_of.0 → opens (b ∷ s) ≡ false → ((j : ℕ) → j < more_of.0 → ¬ (Opens (drop j s)))
+            → ¬ (Opens (drop k (b ∷ s)))
         closed_after zero h e c = closed_from (b ∷ s) e
         closed_after (suc k) h e c = c k (omega arith)
 
@@ -296,7 +373,8 @@ cover_empty es done = refl
 cover_empty es (next {rest = rest} {e = e} m ms) = absurd (let h = element_some [] rest e m in omega arith)
 
 -- what covers a text begins with the element there, and continues as a cover of the rest
-pub cover_after : (s rest : List ℕ) (e : Element) (es : List Element) → IsElement s rest e → Cover s es → (after : List Element) × (es ≡ e ∷ after) × Cover rest after
+pub cover_after : (s rest : List ℕ) (e : Element) (es : List Element) → IsElement s rest e → Cover s es → (after : List Element)
+    × (es ≡ e ∷ after) × Cover rest after
 cover_after s rest e es m done = absurd (let h = element_some [] rest e m in omega arith)
 cover_after s rest e es m (next {rest = r} {e = d} {es = ds} a c) =
     let q = same_element s r rest d e a m in
@@ -310,7 +388,12 @@ same_cover s es fs (next {rest = r} {e = e} {es = more_of} a c) d =
 
 -- each text has one cover
 pub cover_of : (s : List ℕ) → OnlyCover s
-cover_of s = let c = cover_by (suc (length s)) s (omega arith) in record { elements = c.0; cover = c.1; only = λ fs d. same_cover s fs c.0 d c.1 }
+cover_of s = let c = cover_by (suc (length s)) s (omega arith) in record {
+  elements = c.0;
+  cover = c.1;
+  only =
+      λ fs d. same_cover s fs c.0 d c.1;
+}
 
 -- elements joined are the text
 pub joined_cover : (s : List ℕ) (es : List Element) → Cover s es → joined es ≡ s
@@ -318,7 +401,8 @@ joined_cover s es done = refl
 joined_cover s es (next {rest = r} {e = e} {es = more_of} a c) = ap (λ x. text_of e ++ x) (joined_cover r more_of c) ∙ sym a.joined
 
 -- what was found means whatever is there
-pub only_element : (s r : List ℕ) (c : CodeElement) (found : Element) → IsElement s r found → Means c found → (rest : List ℕ) (e : Element) → IsElement s rest e → Means c e × (r ≡ rest)
+pub only_element : (s r : List ℕ) (c : CodeElement) (found : Element) → IsElement s r found → Means c found
+    → (rest : List ℕ) (e : Element) → IsElement s rest e → Means c e × (r ≡ rest)
 only_element s r c found is means rest e m =
     let q = same_element s r rest found e is m in
     (subst (λ (x : Element). Means c x) (ap (λ (x : Taken). x.0) q) means, ap (λ (x : Taken). x.1) q)

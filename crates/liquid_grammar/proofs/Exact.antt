@@ -1,5 +1,37 @@
 -- A reader is exact for a rule if it finds just what the rule relates.
-use Rattle.std.proofs.Common.{◌≡◌, ℕ, ◌-◌, ◌<◌, ◌≤◌, Bool, true, false, cond, ◌==◌, List, [], ◌∷◌, ◌++◌, length, take, Option, Some, None, is_some, option_map, option_and_then, refl, sym, ap, ◌∙◌, subst, arith, append_assoc, take_at, length-append}
+use Rattle.std.proofs.Common.{
+  ◌≡◌,
+  ℕ,
+  ◌-◌,
+  ◌<◌,
+  ◌≤◌,
+  Bool,
+  true,
+  false,
+  cond,
+  ◌==◌,
+  List,
+  [],
+  ◌∷◌,
+  ◌++◌,
+  length,
+  take,
+  Option,
+  Some,
+  None,
+  is_some,
+  option_map,
+  option_and_then,
+  refl,
+  sym,
+  ap,
+  ◌∙◌,
+  subst,
+  arith,
+  append_assoc,
+  take_at,
+  length-append,
+}
 use Rattle.std.proofs.lemmas.Option.{same_Some, none-some, option_and_then_some, cond_some}
 use Rattle.std.specs.Option.{option_or}
 use Rattle.liquid_grammar.specs.meaning.Rules.{Rule, Begins, One, Then, Else, here, instead, Seen, Where, Text, Ahead, Byte, ◌▷◌, ◌◁◌}
@@ -19,12 +51,14 @@ pub option_cases : {A B : Type 0} (o : Option A) → ((x : A) → o ≡ Some x �
 option_cases (Some x) f g = f x refl
 option_cases None f g = g refl
 
-pub option_map_some : {A B P : Type 0} (f : A → B) (o : Option A) (y : B) → option_map f o ≡ Some y → ((x : A) → o ≡ Some x → f x ≡ y → P) → P
+pub option_map_some : {A B P : Type 0} (f : A → B) (o : Option A) (y : B) → option_map f o ≡ Some y
+    → ((x : A) → o ≡ Some x → f x ≡ y → P) → P
 option_map_some f (Some x) y e k = k x refl (same_Some (f x) y e)
 option_map_some f None y e k = absurd (none-some y e)
 
 -- a rule that an exact reader reads has one match at most
-pub same_match : {A : Type 0} {f : Reader A} {R : Rule A} → Exact f R → (s r₁ r₂ : List ℕ) (a₁ a₂ : A) → R s r₁ a₁ → R s r₂ a₂ → ◌≡◌ {A = A × List ℕ} (a₁, r₁) (a₂, r₂)
+pub same_match : {A : Type 0} {f : Reader A} {R : Rule A} → Exact f R → (s r₁ r₂ : List ℕ) (a₁ a₂ : A) → R s r₁ a₁ → R s r₂ a₂
+    → ◌≡◌ {A = A × List ℕ} (a₁, r₁) (a₂, r₂)
 same_match {f = f} ex s r₁ r₂ a₁ a₂ m₁ m₂ = same_Some _ _ (sym (ex.complete s r₁ a₁ m₁) ∙ ex.complete s r₂ a₂ m₂)
 
 -- no match begins where the reader finds none
@@ -63,7 +97,8 @@ exact-one p = record { sound = one_sound p; complete = one_complete p; cuts = λ
 pub exact-byte : (b : ℕ) → Exact (byte b) (Byte b)
 exact-byte b = exact-one (λ c. c == b)
 
-both_sound : {A B : Type 0} {f : Reader A} {g : Reader B} {R : Rule A} {S : Rule B} → Exact f R → Exact g S → (s rest : List ℕ) (a : A × B) → both f g s ≡ Some (a, rest) → Then R S s rest a
+both_sound : {A B : Type 0} {f : Reader A} {g : Reader B} {R : Rule A} {S : Rule B} → Exact f R → Exact g S
+    → (s rest : List ℕ) (a : A × B) → both f g s ≡ Some (a, rest) → Then R S s rest a
 both_sound {A} {B} {f = f} {g = g} {R = R} {S = S} F G s rest a e =
     option_and_then_some (λ x. option_map (λ y. ((x.0, y.0), y.1)) (g x.1)) (f s) (a, rest) e (λ x fx gx.
     option_map_some (λ y. ((x.0, y.0), y.1)) (g x.1) (a, rest) gx (λ y gy q.
@@ -71,10 +106,12 @@ both_sound {A} {B} {f = f} {g = g} {R = R} {S = S} F G s rest a e =
     let t : Then R S s y.1 (x.0, y.0) = record { middle = x.1; before = F.sound s x.1 x.0 fx; after = m } in
     subst (λ (z : (A × B) × List ℕ). Then R S s z.1 z.0) q t))
 
-both_complete : {A B : Type 0} {f : Reader A} {g : Reader B} {R : Rule A} {S : Rule B} → Exact f R → Exact g S → (s rest : List ℕ) (a : A × B) → Then R S s rest a → both f g s ≡ Some (a, rest)
+both_complete : {A B : Type 0} {f : Reader A} {g : Reader B} {R : Rule A} {S : Rule B} → Exact f R → Exact g S
+    → (s rest : List ℕ) (a : A × B) → Then R S s rest a → both f g s ≡ Some (a, rest)
 both_complete {A} {B} {f = f} {g = g} F G s rest a m =
     let k : A × List ℕ → Option ((A × B) × List ℕ) = λ x. option_map (λ y. ((x.0, y.0), y.1)) (g x.1) in
-    ap (option_and_then k) (F.complete s m.middle a.0 m.before) ∙ ap (option_map (λ y. ((a.0, y.0), y.1))) (G.complete m.middle rest a.1 m.after)
+    ap (option_and_then k) (F.complete s m.middle a.0 m.before) ∙ ap (option_map (λ y. ((a.0, y.0), y.1)))
+    (G.complete m.middle rest a.1 m.after)
 
 both_cuts : {A B : Type 0} {R : Rule A} {S : Rule B} → Cuts R → Cuts S → Cuts (Then R S)
 both_cuts F G s rest a m =
@@ -82,17 +119,20 @@ both_cuts F G s rest a m =
     let y = G m.middle rest a.1 m.after in
     (x.0 ++ y.0, x.1 ∙ ap (λ t. x.0 ++ t) y.1 ∙ sym (append_assoc x.0 y.0 rest))
 
-pub exact-both : {A B : Type 0} {f : Reader A} {g : Reader B} {R : Rule A} {S : Rule B} → Exact f R → Exact g S → Exact (both f g) (Then R S)
+pub exact-both : {A B : Type 0} {f : Reader A} {g : Reader B} {R : Rule A} {S : Rule B} → Exact f R → Exact g S
+    → Exact (both f g) (Then R S)
 exact-both F G = record { sound = both_sound F G; complete = both_complete F G; cuts = both_cuts F.cuts G.cuts }
 
-either_sound : {A : Type 0} {f g : Reader A} {R S : Rule A} → Exact f R → Exact g S → (s rest : List ℕ) (a : A) → either f g s ≡ Some (a, rest) → Else R S s rest a
+either_sound : {A : Type 0} {f g : Reader A} {R S : Rule A} → Exact f R → Exact g S → (s rest : List ℕ) (a : A)
+    → either f g s ≡ Some (a, rest) → Else R S s rest a
 either_sound {A} {f = f} {g = g} {R = R} {S = S} F G s rest a = go (f s) refl
   where
     go : (o : Option (A × List ℕ)) → f s ≡ o → option_or o (g s) ≡ Some (a, rest) → Else R S s rest a
     go (Some x) h e = here (F.sound s rest a (h ∙ e))
     go None h e = instead (none_begins F s h) (G.sound s rest a e)
 
-either_complete : {A : Type 0} {f g : Reader A} {R S : Rule A} → Exact f R → Exact g S → (s rest : List ℕ) (a : A) → Else R S s rest a → either f g s ≡ Some (a, rest)
+either_complete : {A : Type 0} {f g : Reader A} {R S : Rule A} → Exact f R → Exact g S → (s rest : List ℕ) (a : A) → Else R S s rest a
+    → either f g s ≡ Some (a, rest)
 either_complete {f = f} {g = g} F G s rest a (here m) = ap (λ o. option_or o (g s)) (F.complete s rest a m)
 either_complete {f = f} {g = g} F G s rest a (instead h m) = ap (λ o. option_or o (g s)) (finds_none F s h) ∙ G.complete s rest a m
 
@@ -103,13 +143,15 @@ either_cuts F G s rest a (instead h m) = G s rest a m
 pub exact-either : {A : Type 0} {f g : Reader A} {R S : Rule A} → Exact f R → Exact g S → Exact (either f g) (Else R S)
 exact-either F G = record { sound = either_sound F G; complete = either_complete F G; cuts = either_cuts F.cuts G.cuts }
 
-seen_sound : {A B : Type 0} (h : A → B) {f : Reader A} {R : Rule A} → Exact f R → (s rest : List ℕ) (b : B) → seen h f s ≡ Some (b, rest) → Seen h R s rest b
+seen_sound : {A B : Type 0} (h : A → B) {f : Reader A} {R : Rule A} → Exact f R → (s rest : List ℕ) (b : B) → seen h f s ≡ Some (b, rest)
+    → Seen h R s rest b
 seen_sound {A} {B} h {f = f} {R = R} F s rest b e =
     option_map_some (λ x. (h x.0, x.1)) (f s) (b, rest) e (λ x fx q.
     let t : Seen h R s x.1 (h x.0) = record { from = x.0; match = F.sound s x.1 x.0 fx; is = refl } in
     subst (λ (z : B × List ℕ). Seen h R s z.1 z.0) q t)
 
-seen_complete : {A B : Type 0} (h : A → B) {f : Reader A} {R : Rule A} → Exact f R → (s rest : List ℕ) (b : B) → Seen h R s rest b → seen h f s ≡ Some (b, rest)
+seen_complete : {A B : Type 0} (h : A → B) {f : Reader A} {R : Rule A} → Exact f R → (s rest : List ℕ) (b : B) → Seen h R s rest b
+    → seen h f s ≡ Some (b, rest)
 seen_complete {A} {B} h F s rest b m =
     let k : A × List ℕ → B × List ℕ = λ x. (h x.0, x.1) in
     let w : B → Option (B × List ℕ) = λ z. Some (z, rest) in
@@ -124,14 +166,16 @@ exact-right F G = exact-seen (λ p. p.1) (exact-both F G)
 pub exact-left : {A B : Type 0} {f : Reader A} {g : Reader B} {R : Rule A} {S : Rule B} → Exact f R → Exact g S → Exact (left f g) (R ◁ S)
 exact-left F G = exact-seen (λ p. p.0) (exact-both F G)
 
-only_sound : {A : Type 0} (p : A → Bool) {f : Reader A} {R : Rule A} → Exact f R → (s rest : List ℕ) (a : A) → only p f s ≡ Some (a, rest) → Where p R s rest a
+only_sound : {A : Type 0} (p : A → Bool) {f : Reader A} {R : Rule A} → Exact f R → (s rest : List ℕ) (a : A)
+    → only p f s ≡ Some (a, rest) → Where p R s rest a
 only_sound {A} p {f = f} {R = R} F s rest a e =
     option_and_then_some (λ x. cond (p x.0) (Some x) None) (f s) (a, rest) e (λ x fx gx.
     let r = cond_some (p x.0) x (a, rest) gx in
     let t : Where p R s x.1 x.0 = record { match = F.sound s x.1 x.0 fx; passes = r.0 } in
     subst (λ (z : A × List ℕ). Where p R s z.1 z.0) r.1 t)
 
-only_complete : {A : Type 0} (p : A → Bool) {f : Reader A} {R : Rule A} → Exact f R → (s rest : List ℕ) (a : A) → Where p R s rest a → only p f s ≡ Some (a, rest)
+only_complete : {A : Type 0} (p : A → Bool) {f : Reader A} {R : Rule A} → Exact f R → (s rest : List ℕ) (a : A) → Where p R s rest a
+    → only p f s ≡ Some (a, rest)
 only_complete {A} p F s rest a m =
     let k : A × List ℕ → Option (A × List ℕ) = λ x. cond (p x.0) (Some x) None in
     let x : A × List ℕ = (a, rest) in
@@ -151,7 +195,8 @@ text_sound {A} {f = f} {R = R} F s rest t e =
     option_map_some (λ x. (take (length s - length x.1) s, x.1)) (f s) (t, rest) e (λ x fx q.
     let m = F.sound s x.1 x.0 fx in
     let c = F.cuts s x.1 x.0 m in
-    let w : Text R s x.1 (take (length s - length x.1) s) = record { shape = x.0; match = m; front = c.1 ∙ ap (λ z. z ++ x.1) (sym (front_of s c.0 x.1 c.1)) } in
+    let w : Text R s x.1 (take (length s - length x.1) s) =
+    record { shape = x.0; match = m; front = c.1 ∙ ap (λ z. z ++ x.1) (sym (front_of s c.0 x.1 c.1)) } in
     subst (λ (z : List ℕ × List ℕ). Text R s z.1 z.0) q w)
 
 text_complete : {A : Type 0} {f : Reader A} {R : Rule A} → Exact f R → (s rest t : List ℕ) → Text R s rest t → text f s ≡ Some (t, rest)
@@ -163,13 +208,15 @@ text_complete {A} F s rest t m =
 pub exact-text : {A : Type 0} {f : Reader A} {R : Rule A} → Exact f R → Exact (text f) (Text R)
 exact-text F = record { sound = text_sound F; complete = text_complete F; cuts = λ s rest t m. (t, m.front) }
 
-ahead_sound : {A : Type 0} {f : Reader A} {R : Rule A} → Exact f R → (s rest : List ℕ) (a : Unit {0}) → ahead f s ≡ Some (a, rest) → Ahead R s rest a
+ahead_sound : {A : Type 0} {f : Reader A} {R : Rule A} → Exact f R → (s rest : List ℕ) (a : Unit {0}) → ahead f s ≡ Some (a, rest)
+    → Ahead R s rest a
 ahead_sound {f = f} F s rest a e =
     let here : Unit {0} × List ℕ = (tt, s) in
     let r = cond_some (is_some (f s)) here (a, rest) e in
     record { stays = sym (ap (λ x. x.1) r.1); begins = begins_found F s r.0 }
 
-ahead_complete : {A : Type 0} {f : Reader A} {R : Rule A} → Exact f R → (s rest : List ℕ) (a : Unit {0}) → Ahead R s rest a → ahead f s ≡ Some (a, rest)
+ahead_complete : {A : Type 0} {f : Reader A} {R : Rule A} → Exact f R → (s rest : List ℕ) (a : Unit {0}) → Ahead R s rest a
+    → ahead f s ≡ Some (a, rest)
 ahead_complete F s rest a m =
     let here : Unit {0} × List ℕ = (tt, s) in
     let w : List ℕ → Option (Unit {0} × List ℕ) = λ z. Some (tt, z) in
@@ -183,7 +230,8 @@ abbrev pub IsEnd : List ℕ → List ℕ → Type 0
 IsEnd s rest = (front : List ℕ) × (s ≡ front ++ rest)
 
 -- what an exact reader leaves is an end of the text
-pub leaves_end : {A : Type 0} {f : Reader A} {R : Rule A} → Exact f R → (s rest : List ℕ) → Some rest ≡ option_map (λ p. p.1) (f s) → IsEnd s rest
+pub leaves_end : {A : Type 0} {f : Reader A} {R : Rule A} → Exact f R → (s rest : List ℕ) → Some rest ≡ option_map (λ p. p.1) (f s)
+    → IsEnd s rest
 leaves_end {f = f} F s rest e =
     option_map_some (λ p. p.1) (f s) rest (sym e) (λ x fx q.
     let cut = F.cuts s x.1 x.0 (F.sound s x.1 x.0 fx) in

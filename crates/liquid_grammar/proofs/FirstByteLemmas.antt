@@ -1,5 +1,35 @@
 -- What a text can begin with, by its first byte.
-use Rattle.std.proofs.Common.{◌≡◌, ℕ, ◌==◌, ◌||◌, ◌⊎◌, inl, inr, Bool, true, false, cond, List, [], ◌∷◌, Option, Some, None, option_map, slice_index, take, drop, eqb-true, refl, sym, ap, ap₂, ◌∙◌, subst, arith}
+use Rattle.std.proofs.Common.{
+  ◌≡◌,
+  ℕ,
+  ◌==◌,
+  ◌||◌,
+  ◌⊎◌,
+  inl,
+  inr,
+  Bool,
+  true,
+  false,
+  cond,
+  List,
+  [],
+  ◌∷◌,
+  Option,
+  Some,
+  None,
+  option_map,
+  slice_index,
+  take,
+  drop,
+  eqb-true,
+  refl,
+  sym,
+  ap,
+  ap₂,
+  ◌∙◌,
+  subst,
+  arith,
+}
 use Rattle.std.proofs.lemmas.Bool.Decides.{nat_tests}
 use Rattle.std.proofs.lemmas.Option.{same_Some}
 use Rattle.std.specs.Option.{option_or}
@@ -13,9 +43,49 @@ use Rattle.liquid_grammar.specs.meaning.Tokens.{is_single, is_double}
 use Rattle.liquid_grammar.specs.meaning.Faults.{index_fault, filter_fault, range_fault, chain_fault}
 use Rattle.liquid_grammar.specs.meaning.Meanings.{scan}
 use Rattle.liquid_grammar.specs.steps.Steps.{byte, one, both, seen, only, text, right, white, name_bytes, identifier}
-use Rattle.liquid_grammar.specs.steps.TokenSteps.{placed, at, any, begins_value, begins_index, begins_filter, separated, following, filter, quoted, digits, sign, whole, fractional, number, literal, text_of_quotes, text_or_number, open_bracket, close_bracket, bracketed_over, named, value, chain_of, range_start, ranged, symbol_of}
+use Rattle.liquid_grammar.specs.steps.TokenSteps.{
+  placed,
+  at,
+  any,
+  begins_value,
+  begins_index,
+  begins_filter,
+  separated,
+  following,
+  filter,
+  quoted,
+  digits,
+  sign,
+  whole,
+  fractional,
+  number,
+  literal,
+  text_of_quotes,
+  text_or_number,
+  open_bracket,
+  close_bracket,
+  bracketed_over,
+  named,
+  value,
+  chain_of,
+  range_start,
+  ranged,
+  symbol_of,
+}
 use Rattle.liquid_grammar.specs.steps.BracketSteps.{index}
-use Rattle.liquid_grammar.proofs.HeadLemmas.{one_none, seen_none, right_none, left_none, either_none, text_none, quoted_none, whole_none, number_none, literal_without_word, no_name}
+use Rattle.liquid_grammar.proofs.HeadLemmas.{
+  one_none,
+  seen_none,
+  right_none,
+  left_none,
+  either_none,
+  text_none,
+  quoted_none,
+  whole_none,
+  number_none,
+  literal_without_word,
+  no_name,
+}
 use Rattle.liquid_grammar.proofs.Scanning.{both_none, both_none_after, range_no_start, no_chain_scan}
 use Rattle.liquid_grammar.proofs.Exact.{none_begins}
 use Rattle.liquid_grammar.proofs.TokenExact.{exact-value, exact-index}
@@ -53,7 +123,8 @@ no_open_bracket s e = right_none (byte 91) white s (other_byte 91 s e)
 
 no_index : (s : List ℕ) → begins_index (slice_index s 0) ≡ false → None ≡ scan (index_fault 0) (index s)
 no_index s e =
-    let bracket = left_none (right open_bracket value) close_bracket s (right_none open_bracket value s (no_open_bracket s (not_91 (slice_index s 0) e))) in
+    let bracket = left_none (right open_bracket value) close_bracket s
+    (right_none open_bracket value s (no_open_bracket s (not_91 (slice_index s 0) e))) in
     sym (ap (scan (index_fault 0)) (either_none (seen named_index named) (seen placed_bracket (at (bracketed_over value))) s
     (seen_none named_index named s (no_named s (not_46 (slice_index s 0) e)))
     (seen_none placed_bracket (at (bracketed_over value)) s (ap (option_map (placed s)) bracket))))
@@ -70,13 +141,15 @@ unfolding range_start
 no_range_start s e = right_none (byte 40) white s (other_byte 40 s e)
 
 pub no_range_here : (s : List ℕ) (b : ℕ) → b ≡ slice_index s 0 → ¬ (b ≡ 40) → None ≡ scan range_fault (ranged s)
-no_range_here s b first other = range_no_start s (sym (ap (option_map (λ p. p.1)) (no_range_start s (ap (λ x. x == 40) (sym first) ∙ unequal b 40 other))))
+no_range_here s b first other = range_no_start s
+    (sym (ap (option_map (λ p. p.1)) (no_range_start s (ap (λ x. x == 40) (sym first) ∙ unequal b 40 other))))
 
 -- a text with a quote
 without_quote : (b : ℕ) (t : List ℕ) → (b == 39) ≡ false → (b == 34) ≡ false → number (b ∷ t) ≡ text_or_number (b ∷ t)
 without_quote b t e f =
     sym (ap (λ o. option_or o (number (b ∷ t)))
-    (seen_none text_literal text_of_quotes (b ∷ t) (either_none (quoted 39) (quoted 34) (b ∷ t) (quoted_none 39 b t e) (quoted_none 34 b t f))))
+    (seen_none text_literal text_of_quotes (b ∷ t)
+    (either_none (quoted 39) (quoted 34) (b ∷ t) (quoted_none 39 b t e) (quoted_none 34 b t f))))
 
 unquoted : (s : List ℕ) → (slice_index s 0 == 39) ≡ false → (slice_index s 0 == 34) ≡ false → number s ≡ text_or_number s
 unfolding quoted
@@ -109,7 +182,8 @@ at_double b t e =
     let other = quoted_none 39 b t (grind (arith, nat_tests)) in
     second_quote (quoted 34 (b ∷ t)) ∙ sym (ap₂ (λ o n. option_or (as_text (option_or o (quoted 34 (b ∷ t)))) n) other no_number)
 
-pub quoted_here : (s : List ℕ) (b : ℕ) → b ≡ slice_index s 0 → (b ≡ 39) ⊎ ((b ≡ 39 → ⊥) × (b ≡ 34)) → as_text (quoted b s) ≡ text_or_number s
+pub quoted_here : (s : List ℕ) (b : ℕ) → b ≡ slice_index s 0 → (b ≡ 39) ⊎ ((b ≡ 39 → ⊥) × (b ≡ 34))
+    → as_text (quoted b s) ≡ text_or_number s
 quoted_here [] b first h = elim h [ inl e ↦ absurd (omega (arith, first, e)) | inr e ↦ absurd (omega (arith, first, e.1)) ]
 quoted_here (x ∷ t) b first h =
     elim h [
@@ -136,7 +210,8 @@ not_digit b e = grind (arith, nat_tests)
 no_identifier : (s : List ℕ) → begins_value (slice_index s 0) ≡ false → None ≡ identifier s
 unfolding identifier
 no_identifier [] e = refl
-no_identifier (b ∷ t) e = sym (text_none (both (one starts_name) name_bytes) (b ∷ t) (both_none (one starts_name) name_bytes (b ∷ t) (one_none starts_name b t (not_name b e))))
+no_identifier (b ∷ t) e = sym (text_none (both (one starts_name) name_bytes) (b ∷ t)
+    (both_none (one starts_name) name_bytes (b ∷ t) (one_none starts_name b t (not_name b e))))
 
 no_number : (s : List ℕ) → begins_value (slice_index s 0) ≡ false → number s ≡ None
 unfolding number fractional whole sign digits
@@ -200,7 +275,9 @@ no_bar : (s : List ℕ) → begins_filter s ≡ false → right white (byte 124)
 unfolding white
 no_bar s e =
     let n = prefix_len is_white s in
-    seen_none (λ p. p.1) (both white (byte 124)) s (both_none_after white (byte 124) s (take n s, drop n s) refl (other_byte 124 (drop n s) e))
+    seen_none (λ p. p.1) (both white (byte 124)) s
+    (both_none_after white (byte 124) s (take n s, drop n s) refl (other_byte 124 (drop n s) e))
 
 pub no_filter_here : (s : List ℕ) → begins_filter s ≡ false → None ≡ scan filter_fault (following 124 filter s)
-no_filter_here s e = sym (ap (scan filter_fault) (right_none (separated 124) filter s (right_none (right white (byte 124)) white s (no_bar s e))))
+no_filter_here s e = sym (ap (scan filter_fault)
+    (right_none (separated 124) filter s (right_none (right white (byte 124)) white s (no_bar s e))))

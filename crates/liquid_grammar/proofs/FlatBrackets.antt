@@ -1,10 +1,50 @@
 -- Nested brackets, matched with a count of those that are open.
-use Rattle.std.proofs.Common.{◌≡◌, ℕ, zero, suc, pred, ◌+◌, ◌-◌, ◌<◌, Bool, true, false, cond, ◌==◌, List, [], ◌∷◌, Option, Some, None, option_map, option_and_then, MatchOption, refl, sym, ap, ap₂, ◌∙◌, subst, arith, eqb-true}
+use Rattle.std.proofs.Common.{
+  ◌≡◌,
+  ℕ,
+  zero,
+  suc,
+  pred,
+  ◌+◌,
+  ◌-◌,
+  ◌<◌,
+  Bool,
+  true,
+  false,
+  cond,
+  ◌==◌,
+  List,
+  [],
+  ◌∷◌,
+  Option,
+  Some,
+  None,
+  option_map,
+  option_and_then,
+  MatchOption,
+  refl,
+  sym,
+  ap,
+  ap₂,
+  ◌∙◌,
+  subst,
+  arith,
+  eqb-true,
+}
 use Rattle.std.proofs.lemmas.Option.{same_Some, none-some}
 use Rattle.std.specs.Option.{option_or}
 use Rattle.liquid_grammar.specs.meaning.Rules.{Placed}
 use Rattle.liquid_grammar.specs.meaning.Literals.{Literal}
-use Rattle.liquid_grammar.specs.meaning.Values.{Value, Index, named_index, bracketed_index, gather, placed_literal, placed_variable, placed_bracket}
+use Rattle.liquid_grammar.specs.meaning.Values.{
+  Value,
+  Index,
+  named_index,
+  bracketed_index,
+  gather,
+  placed_literal,
+  placed_variable,
+  placed_bracket,
+}
 use Rattle.liquid_grammar.specs.meaning.Faults.{Fault, literal_fault, fault_within, index_fault, indexes_fault, deep_fault}
 use Rattle.liquid_grammar.specs.declared.fault.Fault.{Fault as CodeFault}
 use Rattle.liquid_grammar.specs.meaning.Meanings.{Scanned, scan, faults_of}
@@ -85,7 +125,8 @@ start_shape s (Some v) = go (close_bracket v.1)
         → let make : Placed Value × List ℕ → Index × List ℕ = λ a. (placed_bracket a.0, a.1) in
         let following : ℕ × List ℕ → Value × List ℕ = λ c. (v.0, c.1) in
         let next : ℕ × List ℕ → Option Scanned = λ a. resume 0 a.1 in
-        scan (index_fault 0) (option_map make (option_map (placed s) (option_map following o))) ≡ adds (fault_within 1 v.0) (option_and_then next o)
+        scan (index_fault 0) (option_map make (option_map (placed s) (option_map following o))) ≡ adds (fault_within 1 v.0)
+        (option_and_then next o)
     go (Some c) = let w : Option Fault → Option Scanned = λ y. Some (y, c.1) in ap w (sym (or_none (fault_within 1 v.0)))
     go None = refl
 start_shape s None = refl
@@ -102,12 +143,14 @@ scan_none s e =
     ap (λ o. scan (index_fault 0) (option_map make (option_map (placed s) o))) (bracketed_none s e)
 
 -- a literal is inside the brackets
-pub starts_literal : (depth : ℕ) (s : List ℕ) (x : Literal × List ℕ) → literal s ≡ Some x → starts (suc depth) s ≡ adds (literal_fault s x.0) (closing (resume depth) x.1)
+pub starts_literal : (depth : ℕ) (s : List ℕ) (x : Literal × List ℕ) → literal s ≡ Some x
+    → starts (suc depth) s ≡ adds (literal_fault s x.0) (closing (resume depth) x.1)
 unfolding starts
 starts_literal depth s x e =
     let make : Placed Literal × List ℕ → Value × List ℕ = λ a. (placed_literal a.0, a.1) in
     let next : Value × List ℕ → Option Scanned = λ v. adds (fault_within (suc depth) v.0) (closing (resume depth) v.1) in
-    ap (option_and_then next) (value_reads s) ∙ ap (λ o. option_and_then next (option_or (option_map make (option_map (placed s) o)) (variable_over value s))) e
+    ap (option_and_then next) (value_reads s)
+    ∙ ap (λ o. option_and_then next (option_or (option_map make (option_map (placed s) o)) (variable_over value s))) e
 
 -- a variable is inside the brackets
 variable_shape : (depth : ℕ) (s : List ℕ) (n : List ℕ × List ℕ) (o : Option (List Index × List ℕ))
@@ -119,7 +162,8 @@ variable_shape : (depth : ℕ) (s : List ℕ) (n : List ℕ × List ℕ) (o : Op
 variable_shape depth s n (Some b) = refl
 variable_shape depth s n None = refl
 
-pub starts_name : (depth : ℕ) (s : List ℕ) (n : List ℕ × List ℕ) → literal s ≡ None → name s ≡ Some n → starts (suc depth) s ≡ resume (suc depth) n.1
+pub starts_name : (depth : ℕ) (s : List ℕ) (n : List ℕ × List ℕ) → literal s ≡ None → name s ≡ Some n
+    → starts (suc depth) s ≡ resume (suc depth) n.1
 unfolding starts resume
 starts_name depth s n none e =
     let make : Placed Literal × List ℕ → Value × List ℕ = λ a. (placed_literal a.0, a.1) in
@@ -159,7 +203,8 @@ pub resume_named : (depth : ℕ) (s : List ℕ) (n : List ℕ × List ℕ) → n
 unfolding resume
 resume_named depth s n e =
     let more_of : List Index × List ℕ → Option Scanned = λ b. adds (indexes_fault (suc depth) (gather b.0)) (closing (resume depth) b.1) in
-    ap (option_and_then more_of) (repeated_more (exact-index exact-value) (shrinks-index exact-value) s (named_index n.0, n.1) (index_named s n e))
+    ap (option_and_then more_of) (repeated_more (exact-index exact-value) (shrinks-index exact-value) s (named_index n.0, n.1)
+    (index_named s n e))
     ∙ named_shape depth n.0 (indexes n.1)
 
 -- none: a close bracket must follow
@@ -202,20 +247,24 @@ open_not_close (b ∷ s) x e =
 opened_shape : (depth : ℕ) (s : List ℕ) (v : Value × List ℕ) (c : ℕ × List ℕ) (o : Option (List Index × List ℕ))
     → let cons : List Index × List ℕ → List Index × List ℕ = λ b. (bracketed_index s c.1 v.0 ∷ b.0, b.1) in
     let more_of : List Index × List ℕ → Option Scanned = λ b. adds (indexes_fault (suc depth) (gather b.0)) (closing (resume depth) b.1) in
-    option_and_then more_of (option_map cons o) ≡ adds (deep_fault (suc depth) s) (adds (fault_within (suc (suc depth)) v.0) (option_and_then more_of o))
+    option_and_then more_of (option_map cons o) ≡ adds (deep_fault (suc depth) s)
+    (adds (fault_within (suc (suc depth)) v.0) (option_and_then more_of o))
 opened_shape depth s v c (Some b) =
     let deep = deep_fault (suc depth) s in
     let inner = fault_within (suc (suc depth)) v.0 in
-    sym (adds_adds deep inner (adds (indexes_fault (suc depth) (gather b.0)) (closing (resume depth) b.1)) ∙ adds_adds (option_or deep inner) (indexes_fault (suc depth) (gather b.0)) (closing (resume depth) b.1))
+    sym (adds_adds deep inner (adds (indexes_fault (suc depth) (gather b.0)) (closing (resume depth) b.1))
+    ∙ adds_adds (option_or deep inner) (indexes_fault (suc depth) (gather b.0)) (closing (resume depth) b.1))
 opened_shape depth s v c None = refl
 
-index_opened : (s : List ℕ) (v : Value × List ℕ) (c : ℕ × List ℕ) → named s ≡ None → bracketed_over value s ≡ Some (v.0, c.1) → index s ≡ Some (bracketed_index s c.1 v.0, c.1)
+index_opened : (s : List ℕ) (v : Value × List ℕ) (c : ℕ × List ℕ) → named s ≡ None → bracketed_over value s ≡ Some (v.0, c.1)
+    → index s ≡ Some (bracketed_index s c.1 v.0, c.1)
 index_opened s v c none e =
     let make : Placed Value × List ℕ → Index × List ℕ = λ a. (placed_bracket a.0, a.1) in
     let make_named : List ℕ × List ℕ → Index × List ℕ = λ a. (named_index a.0, a.1) in
     ap (λ o. option_or (option_map make_named o) (bracket_index s)) none ∙ ap (λ o. option_map make (option_map (placed s) o)) e
 
-pub resume_open : (depth : ℕ) (s : List ℕ) (x : List ℕ × List ℕ) → named s ≡ None → open_bracket s ≡ Some x → resume (suc depth) s ≡ adds (deep_fault (suc depth) s) (starts (suc (suc depth)) x.1)
+pub resume_open : (depth : ℕ) (s : List ℕ) (x : List ℕ × List ℕ) → named s ≡ None → open_bracket s ≡ Some x
+    → resume (suc depth) s ≡ adds (deep_fault (suc depth) s) (starts (suc (suc depth)) x.1)
 unfolding starts resume
 resume_open depth s x none e = by_value (value x.1) refl
   where
@@ -240,20 +289,24 @@ resume_open depth s x none e = by_value (value x.1) refl
     deep : Option Scanned → Option Scanned
     deep = adds (deep_fault (suc depth) s)
 
-    by_close : (v : Value × List ℕ) → value x.1 ≡ Some v → (o : Option (ℕ × List ℕ)) → close_bracket v.1 ≡ o → resume (suc depth) s ≡ deep (adds (fault_within (suc (suc depth)) v.0) (closing (resume (suc depth)) v.1))
+    by_close : (v : Value × List ℕ) → value x.1 ≡ Some v → (o : Option (ℕ × List ℕ)) → close_bracket v.1 ≡ o
+        → resume (suc depth) s ≡ deep (adds (fault_within (suc (suc depth)) v.0) (closing (resume (suc depth)) v.1))
     by_close v h None k =
         let keep : ℕ × List ℕ → Value × List ℕ = λ c. (v.0, c.1) in
         let go : ℕ × List ℕ → Option Scanned = λ a. resume (suc depth) a.1 in
-        ended (found v h ∙ ap (option_map keep) k) ∙ sym (ap (λ o. deep (adds (fault_within (suc (suc depth)) v.0) (option_and_then go o))) k)
+        ended (found v h ∙ ap (option_map keep) k)
+        ∙ sym (ap (λ o. deep (adds (fault_within (suc (suc depth)) v.0) (option_and_then go o))) k)
     by_close v h (Some c) k =
         let keep : ℕ × List ℕ → Value × List ℕ = λ c. (v.0, c.1) in
         let go : ℕ × List ℕ → Option Scanned = λ a. resume (suc depth) a.1 in
         let here = index_opened s v c none (found v h ∙ ap (option_map keep) k) in
-        ap (option_and_then more_of) (repeated_more (exact-index exact-value) (shrinks-index exact-value) s (bracketed_index s c.1 v.0, c.1) here)
+        ap (option_and_then more_of) (repeated_more (exact-index exact-value) (shrinks-index exact-value) s
+        (bracketed_index s c.1 v.0, c.1) here)
         ∙ opened_shape depth s v c (indexes c.1)
         ∙ sym (ap (λ o. deep (adds (fault_within (suc (suc depth)) v.0) (option_and_then go o))) k)
 
-    by_value : (o : Option (Value × List ℕ)) → value x.1 ≡ o → resume (suc depth) s ≡ adds (deep_fault (suc depth) s) (starts (suc (suc depth)) x.1)
+    by_value : (o : Option (Value × List ℕ)) → value x.1 ≡ o → resume (suc depth) s ≡ adds (deep_fault (suc depth) s)
+        (starts (suc (suc depth)) x.1)
     by_value None h = ended (bracketed_is s x e ∙ ap (option_and_then following) h) ∙ sym (ap (λ o. deep (option_and_then next o)) h)
     by_value (Some v) h = by_close v h (close_bracket v.1) refl ∙ sym (ap (λ o. deep (option_and_then next o)) h)
 
@@ -269,7 +322,8 @@ unfolding resume
 resume_zero s = refl
 
 -- what a call left is what the reader left
-pub left_some : {A : Type 0} (o : Option (A × List ℕ)) (rest : List ℕ) → Some rest ≡ option_map (λ p. p.1) o → (x : A × List ℕ) × (o ≡ Some x) × (x.1 ≡ rest)
+pub left_some : {A : Type 0} (o : Option (A × List ℕ)) (rest : List ℕ) → Some rest ≡ option_map (λ p. p.1) o → (x : A × List ℕ)
+    × (o ≡ Some x) × (x.1 ≡ rest)
 left_some (Some x) rest e = (x, refl, sym (same_Some _ _ e))
 left_some None rest e = absurd (none-some _ (sym e))
 
@@ -282,11 +336,14 @@ faults_or (Some x) b = refl
 faults_or None b = refl
 
 -- the turns of the matcher, each by what it found
-pub turn_literal : (f : Option Fault) (d : ℕ) (s rest : List ℕ) (l : Literal) → 0 < d → Some (l, rest) ≡ literal s → adds f (starts d s) ≡ adds (option_or f (literal_fault s l)) (closing (resume (pred d)) rest)
+pub turn_literal : (f : Option Fault) (d : ℕ) (s rest : List ℕ) (l : Literal) → 0 < d → Some (l, rest) ≡ literal s
+    → adds f (starts d s) ≡ adds (option_or f (literal_fault s l)) (closing (resume (pred d)) rest)
 turn_literal f zero s rest l h e = absurd (omega arith)
-turn_literal f (suc d) s rest l h e = ap (adds f) (starts_literal d s (l, rest) (sym e)) ∙ adds_adds f (literal_fault s l) (closing (resume d) rest)
+turn_literal f (suc d) s rest l h e = ap (adds f) (starts_literal d s (l, rest) (sym e))
+    ∙ adds_adds f (literal_fault s l) (closing (resume d) rest)
 
-pub turn_name : (f : Option Fault) (d : ℕ) (s rest n : List ℕ) → 0 < d → None ≡ literal s → Some (n, rest) ≡ name s → adds f (starts d s) ≡ adds f (resume d rest)
+pub turn_name : (f : Option Fault) (d : ℕ) (s rest n : List ℕ) → 0 < d → None ≡ literal s → Some (n, rest) ≡ name s
+    → adds f (starts d s) ≡ adds f (resume d rest)
 turn_name f zero s rest n h none e = absurd (omega arith)
 turn_name f (suc d) s rest n h none e = ap (adds f) (starts_name d s (n, rest) (sym none) (sym e))
 
@@ -294,13 +351,15 @@ pub turn_no_value : (f : Option Fault) (d : ℕ) (s : List ℕ) → 0 < d → No
 turn_no_value f zero s h none e = absurd (omega arith)
 turn_no_value f (suc d) s h none e = ap (adds f) (starts_none d s (sym none) (sym e))
 
-pub turn_named : (f : Option Fault) (d : ℕ) (s rest : List ℕ) → 0 < d → Some rest ≡ option_map (λ p. p.1) (named s) → adds f (resume d s) ≡ adds f (resume d rest)
+pub turn_named : (f : Option Fault) (d : ℕ) (s rest : List ℕ) → 0 < d → Some rest ≡ option_map (λ p. p.1) (named s)
+    → adds f (resume d s) ≡ adds f (resume d rest)
 turn_named f zero s rest h e = absurd (omega arith)
 turn_named f (suc d) s rest h e =
     let x = left_some (named s) rest e in
     ap (adds f) (resume_named d s x.0 x.1 ∙ ap (resume (suc d)) x.2)
 
-pub turn_open : (f : Option Fault) (d : ℕ) (s rest : List ℕ) → 0 < d → None ≡ option_map (λ p. p.1) (named s) → Some rest ≡ option_map (λ p. p.1) (open_bracket s) → adds f (resume d s) ≡ adds (option_or f (deep_fault d s)) (starts (d + 1) rest)
+pub turn_open : (f : Option Fault) (d : ℕ) (s rest : List ℕ) → 0 < d → None ≡ option_map (λ p. p.1) (named s)
+    → Some rest ≡ option_map (λ p. p.1) (open_bracket s) → adds f (resume d s) ≡ adds (option_or f (deep_fault d s)) (starts (d + 1) rest)
 turn_open f zero s rest h none e = absurd (omega arith)
 turn_open f (suc d) s rest h none e =
     let x = left_some (open_bracket s) rest e in
@@ -308,23 +367,28 @@ turn_open f (suc d) s rest h none e =
     ap (adds f) (resume_open d s x.0 (left_none (named s) none) x.1) ∙ adds_adds f (deep_fault (suc d) s) (starts (suc (suc d)) x.0.1)
     ∙ ap₂ (λ n t. adds (option_or f (deep_fault (suc d) s)) (starts n t)) more_open x.2
 
-pub turn_to_close : (f : Option Fault) (d : ℕ) (s : List ℕ) → 0 < d → None ≡ option_map (λ p. p.1) (named s) → None ≡ option_map (λ p. p.1) (open_bracket s) → adds f (resume d s) ≡ adds f (closing (resume (pred d)) s)
+pub turn_to_close : (f : Option Fault) (d : ℕ) (s : List ℕ) → 0 < d → None ≡ option_map (λ p. p.1) (named s)
+    → None ≡ option_map (λ p. p.1) (open_bracket s) → adds f (resume d s) ≡ adds f (closing (resume (pred d)) s)
 turn_to_close f zero s h none e = absurd (omega arith)
 turn_to_close f (suc d) s h none e = ap (adds f) (resume_close d s (left_none (named s) none) (left_none (open_bracket s) e))
 
-pub turn_closed : (f : Option Fault) (d : ℕ) (s rest : List ℕ) → 0 < d → Some rest ≡ option_map (λ p. p.1) (close_bracket s) → adds f (closing (resume (pred d)) s) ≡ adds f (resume (d - 1) rest)
+pub turn_closed : (f : Option Fault) (d : ℕ) (s rest : List ℕ) → 0 < d → Some rest ≡ option_map (λ p. p.1) (close_bracket s)
+    → adds f (closing (resume (pred d)) s) ≡ adds f (resume (d - 1) rest)
 turn_closed f zero s rest h e = absurd (omega arith)
 turn_closed f (suc d) s rest h e =
     let x = left_some (close_bracket s) rest e in
     let fewer : d ≡ suc d - 1 = omega arith in
     ap (adds f) (closing_found (resume d) s x.0 x.1) ∙ ap₂ (λ n t. adds f (resume n t)) fewer x.2
 
-pub turn_unclosed : (f : Option Fault) (d : ℕ) (s : List ℕ) → None ≡ option_map (λ p. p.1) (close_bracket s) → adds f (closing (resume (pred d)) s) ≡ None
+pub turn_unclosed : (f : Option Fault) (d : ℕ) (s : List ℕ) → None ≡ option_map (λ p. p.1) (close_bracket s)
+    → adds f (closing (resume (pred d)) s) ≡ None
 turn_unclosed f d s e = ap (adds f) (closing_none (resume (pred d)) s (left_none (close_bracket s) e))
 
 -- where the matcher begins and where it ends
-pub bracket_opens : (s rest : List ℕ) → Some rest ≡ option_map (λ p. p.1) (open_bracket s) → scan (index_fault 0) (bracket_index s) ≡ adds None (starts 1 rest)
-bracket_opens s rest e = let x = left_some (open_bracket s) rest e in scan_open s x.0 x.1 ∙ ap (starts 1) x.2 ∙ sym (adds_none (starts 1 rest))
+pub bracket_opens : (s rest : List ℕ) → Some rest ≡ option_map (λ p. p.1) (open_bracket s)
+    → scan (index_fault 0) (bracket_index s) ≡ adds None (starts 1 rest)
+bracket_opens s rest e = let x = left_some (open_bracket s) rest e in scan_open s x.0 x.1 ∙ ap (starts 1) x.2
+    ∙ sym (adds_none (starts 1 rest))
 
 pub no_bracket_opens : (s : List ℕ) → None ≡ option_map (λ p. p.1) (open_bracket s) → scan (index_fault 0) (bracket_index s) ≡ None
 no_bracket_opens s e = scan_none s (left_none (open_bracket s) e)
@@ -338,7 +402,8 @@ all_closed f d s e =
 pub going_at : (o : Open) (a : Await) → o.awaits ≡ a → going o ≡ adds (faults_of o.fault) (awaited a o.depth o.rest.now)
 going_at o a e = ap (λ x. adds (faults_of o.fault) (awaited x o.depth o.rest.now)) e
 
-pub fault_added : (a b r : Option CodeFault) (g : Option Fault) → r ≡ option_or a b → faults_of b ≡ g → option_or (faults_of a) g ≡ faults_of r
+pub fault_added : (a b r : Option CodeFault) (g : Option Fault) → r ≡ option_or a b → faults_of b ≡ g
+    → option_or (faults_of a) g ≡ faults_of r
 fault_added a b r g e f = sym (ap faults_of e ∙ faults_or a b ∙ ap (option_or (faults_of a)) f)
 
 pub match_none : {X : Type 0} (o : Option X) (P : Type 0) (Q : X → Type 0) → o ≡ None → P → MatchOption o P Q

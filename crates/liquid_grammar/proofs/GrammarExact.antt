@@ -1,13 +1,99 @@
 -- The reader of each rule is exact.
-use Rattle.std.proofs.Common.{◌≡◌, ℕ, suc, ◌+◌, Bool, true, false, cond, not, ◌&&◌, ◌||◌, ◌==◌, List, [], ◌∷◌, ◌++◌, take, drop, Option, Some, None, is_some, option_map, option_and_then, slice_index, refl, sym, ap, ◌∙◌, subst, ap₂, arith, take-append-drop}
+use Rattle.std.proofs.Common.{
+  ◌≡◌,
+  ℕ,
+  suc,
+  ◌+◌,
+  Bool,
+  true,
+  false,
+  cond,
+  not,
+  ◌&&◌,
+  ◌||◌,
+  ◌==◌,
+  List,
+  [],
+  ◌∷◌,
+  ◌++◌,
+  take,
+  drop,
+  Option,
+  Some,
+  None,
+  is_some,
+  option_map,
+  option_and_then,
+  slice_index,
+  refl,
+  sym,
+  ap,
+  ◌∙◌,
+  subst,
+  ap₂,
+  arith,
+  take-append-drop,
+}
 use Rattle.std.proofs.lemmas.Option.{same_Some}
 use Rattle.std.specs.Option.{option_or}
 use Rattle.std.specs.List.{prefix_len}
 use Rattle.liquid_grammar.specs.meaning.Bytes.{is_white, starts_name, is_word}
 use Rattle.liquid_grammar.specs.meaning.Rules.{Rule, Begins, One, here, instead, Repeated, ends, more, Byte, ◌▷◌, ◌◁◌}
-use Rattle.liquid_grammar.specs.meaning.Grammar.{White, Braces, Opener, Closer, AnyOpener, NameByte, Identifier, is_literal_word, Name, LoneBrace}
-use Rattle.liquid_grammar.specs.steps.Steps.{Reader, one, byte, either, ahead, left, run, white, braces, dashed_opener, opener, any_opener, dashed_closer, closer, is_name_byte, name_len, name_bytes, identifier, name, lone_brace}
-use Rattle.liquid_grammar.proofs.Exact.{Exact, none_begins, finds_none, exact-one, exact-byte, exact-both, exact-either, exact-right, exact-left, exact-only, exact-text, exact-ahead, Shrinks, shrinks-one, shrinks-first, shrinks-second, shrinks-seen, shrinks-else, shrinks-text}
+use Rattle.liquid_grammar.specs.meaning.Grammar.{
+  White,
+  Braces,
+  Opener,
+  Closer,
+  AnyOpener,
+  NameByte,
+  Identifier,
+  is_literal_word,
+  Name,
+  LoneBrace,
+}
+use Rattle.liquid_grammar.specs.steps.Steps.{
+  Reader,
+  one,
+  byte,
+  either,
+  ahead,
+  left,
+  run,
+  white,
+  braces,
+  dashed_opener,
+  opener,
+  any_opener,
+  dashed_closer,
+  closer,
+  is_name_byte,
+  name_len,
+  name_bytes,
+  identifier,
+  name,
+  lone_brace,
+}
+use Rattle.liquid_grammar.proofs.Exact.{
+  Exact,
+  none_begins,
+  finds_none,
+  exact-one,
+  exact-byte,
+  exact-both,
+  exact-either,
+  exact-right,
+  exact-left,
+  exact-only,
+  exact-text,
+  exact-ahead,
+  Shrinks,
+  shrinks-one,
+  shrinks-first,
+  shrinks-second,
+  shrinks-seen,
+  shrinks-else,
+  shrinks-text,
+}
 
 -- R takes one byte at a time, which is its shape
 abbrev pub TakesBytes : Rule ℕ → Type 0
@@ -20,13 +106,15 @@ Repeats f n = (n [] ≡ 0) × ((b : ℕ) (s : List ℕ) → n (b ∷ s) ≡ cond
 abbrev pub counted : (List ℕ → ℕ) → Reader (List ℕ)
 counted n s = Some (take (n s) s, drop (n s) s)
 
-repeated_sound : {f : Reader ℕ} {R : Rule ℕ} (n : List ℕ → ℕ) → Exact f R → TakesBytes R → Repeats f n → (s : List ℕ) → Repeated R s (drop (n s) s) (take (n s) s)
+repeated_sound : {f : Reader ℕ} {R : Rule ℕ} (n : List ℕ → ℕ) → Exact f R → TakesBytes R → Repeats f n → (s : List ℕ)
+    → Repeated R s (drop (n s) s) (take (n s) s)
 repeated_sound {f = f} {R = R} n F one_byte r [] =
     let stop : ¬ (Begins R []) = λ b. let e = one_byte [] b.rest b.shape b.match in cc in
     subst (λ (k : ℕ). Repeated R [] (drop k []) (take k [])) (sym r.0) (ends stop)
 repeated_sound {f = f} {R = R} n F one_byte r (b ∷ s) = go (f (b ∷ s)) refl (repeated_sound n F one_byte r s)
   where
-    go : (o : Option (ℕ × List ℕ)) → f (b ∷ s) ≡ o → Repeated R s (drop (n s) s) (take (n s) s) → Repeated R (b ∷ s) (drop (n (b ∷ s)) (b ∷ s)) (take (n (b ∷ s)) (b ∷ s))
+    go : (o : Option (ℕ × List ℕ)) → f (b ∷ s) ≡ o → Repeated R s (drop (n s) s) (take (n s) s)
+        → Repeated R (b ∷ s) (drop (n (b ∷ s)) (b ∷ s)) (take (n (b ∷ s)) (b ∷ s))
     go (Some x) h more_of =
         let found = F.sound (b ∷ s) x.1 x.0 h in
         let e = one_byte (b ∷ s) x.1 x.0 found in
@@ -36,12 +124,14 @@ repeated_sound {f = f} {R = R} n F one_byte r (b ∷ s) = go (f (b ∷ s)) refl 
         let len : suc (n s) ≡ n (b ∷ s) = omega (arith, r.1 b s ∙ ap (λ o. cond (is_some o) (1 + n s) 0) h) in
         subst (λ (k : ℕ). Repeated R (b ∷ s) (drop k (b ∷ s)) (take k (b ∷ s))) len (more here more_of)
     go None h more_of =
-        subst (λ (k : ℕ). Repeated R (b ∷ s) (drop k (b ∷ s)) (take k (b ∷ s))) (sym (r.1 b s ∙ ap (λ o. cond (is_some o) (1 + n s) 0) h)) (ends (none_begins F (b ∷ s) h))
+        subst (λ (k : ℕ). Repeated R (b ∷ s) (drop k (b ∷ s)) (take k (b ∷ s)))
+        (sym (r.1 b s ∙ ap (λ o. cond (is_some o) (1 + n s) 0) h)) (ends (none_begins F (b ∷ s) h))
 
 counted_parts : (n : List ℕ → ℕ) (s rest a : List ℕ) → counted n s ≡ Some (a, rest) → (take (n s) s ≡ a) × (drop (n s) s ≡ rest)
 counted_parts n s rest a e = let q = same_Some _ _ e in (ap (λ x. x.0) q, ap (λ x. x.1) q)
 
-repeated_complete : {f : Reader ℕ} {R : Rule ℕ} (n : List ℕ → ℕ) → Exact f R → TakesBytes R → Repeats f n → (s rest a : List ℕ) → Repeated R s rest a → counted n s ≡ Some (a, rest)
+repeated_complete : {f : Reader ℕ} {R : Rule ℕ} (n : List ℕ → ℕ) → Exact f R → TakesBytes R → Repeats f n → (s rest a : List ℕ)
+    → Repeated R s rest a → counted n s ≡ Some (a, rest)
 repeated_complete {f = f} {R = R} n F one_byte r s rest a (ends stop) = go s (finds_none F s stop)
   where
     at : (t : List ℕ) → n t ≡ 0 → counted n t ≡ Some ([], t)
@@ -66,7 +156,8 @@ pub exact-counted : {f : Reader ℕ} {R : Rule ℕ} (n : List ℕ → ℕ) → E
 exact-counted {f = f} {R = R} n F one_byte r = record {
   sound = λ s rest a e.
       let q = counted_parts n s rest a e in
-      subst (λ (y : List ℕ). Repeated R s y a) q.1 (subst (λ (x : List ℕ). Repeated R s (drop (n s) s) x) q.0 (repeated_sound n F one_byte r s));
+      subst (λ (y : List ℕ). Repeated R s y a) q.1
+      (subst (λ (x : List ℕ). Repeated R s (drop (n s) s) x) q.0 (repeated_sound n F one_byte r s));
   complete = repeated_complete n F one_byte r;
   cuts = λ s rest a m. (a, counted_cuts n s rest a (repeated_complete n F one_byte r s rest a m));
 }

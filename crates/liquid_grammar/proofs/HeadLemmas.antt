@@ -1,5 +1,32 @@
 -- What a text begins with, by its identifier: a word, or something else.
-use Rattle.std.proofs.Common.{◌≡◌, ℕ, ◌-◌, ◌==◌, ◌||◌, Bool, true, false, not, cond, List, [], ◌∷◌, length, take, Option, Some, None, option_map, option_and_then, refl, sym, ap, ap₂, ◌∙◌, arith}
+use Rattle.std.proofs.Common.{
+  ◌≡◌,
+  ℕ,
+  ◌-◌,
+  ◌==◌,
+  ◌||◌,
+  Bool,
+  true,
+  false,
+  not,
+  cond,
+  List,
+  [],
+  ◌∷◌,
+  length,
+  take,
+  Option,
+  Some,
+  None,
+  option_map,
+  option_and_then,
+  refl,
+  sym,
+  ap,
+  ap₂,
+  ◌∙◌,
+  arith,
+}
 use Rattle.std.proofs.lemmas.Bool.Decides.{nat_tests}
 use Rattle.std.proofs.lemmas.Option.{none-some}
 use Rattle.std.specs.Option.{option_or}
@@ -14,7 +41,19 @@ use Rattle.liquid_grammar.specs.declared.head.Head.{Head}
 use Rattle.liquid_grammar.specs.declared.head.Head.TheVariants as head
 use Rattle.liquid_grammar.specs.steps.Heads.{literal_in, name_in, IsHeadOf}
 use Rattle.liquid_grammar.specs.steps.Steps.{Reader, one, byte, both, either, seen, text, right, left, run, name_bytes, identifier, name}
-use Rattle.liquid_grammar.specs.steps.TokenSteps.{quoted, text_of_quotes, digits, sign, whole, fractional, number, not_ahead, word, literal, text_or_number}
+use Rattle.liquid_grammar.specs.steps.TokenSteps.{
+  quoted,
+  text_of_quotes,
+  digits,
+  sign,
+  whole,
+  fractional,
+  number,
+  not_ahead,
+  word,
+  literal,
+  text_or_number,
+}
 use Rattle.liquid_grammar.proofs.Scanning.{both_none, both_none_after}
 
 not_39 : (b : ℕ) → starts_name b ≡ true → (b == 39) ≡ false
@@ -49,11 +88,13 @@ either_none f g s e h = ap₂ option_or e h
 
 pub quoted_none : (quote b : ℕ) (t : List ℕ) → (b == quote) ≡ false → quoted quote (b ∷ t) ≡ None
 unfolding quoted
-quoted_none quote b t e = left_none (right (byte quote) (run (λ c. not (c == quote)))) (byte quote) (b ∷ t) (right_none (byte quote) (run (λ c. not (c == quote))) (b ∷ t) (one_none (λ c. c == quote) b t e))
+quoted_none quote b t e = left_none (right (byte quote) (run (λ c. not (c == quote)))) (byte quote) (b ∷ t)
+    (right_none (byte quote) (run (λ c. not (c == quote))) (b ∷ t) (one_none (λ c. c == quote) b t e))
 
 digits_none : (b : ℕ) (t : List ℕ) → is_ascii_digit b ≡ false → digits (b ∷ t) ≡ None
 unfolding digits
-digits_none b t e = text_none (both (one is_ascii_digit) (run is_ascii_digit)) (b ∷ t) (both_none (one is_ascii_digit) (run is_ascii_digit) (b ∷ t) (one_none is_ascii_digit b t e))
+digits_none b t e = text_none (both (one is_ascii_digit) (run is_ascii_digit)) (b ∷ t)
+    (both_none (one is_ascii_digit) (run is_ascii_digit) (b ∷ t) (one_none is_ascii_digit b t e))
 
 sign_none : (b : ℕ) (t : List ℕ) → (b == 43 || b == 45) ≡ false → sign (b ∷ t) ≡ Some (None, b ∷ t)
 unfolding sign
@@ -61,7 +102,8 @@ sign_none b t e = ap (λ c. option_or (option_map (λ (a : ℕ × List ℕ). (So
 
 pub whole_none : (b : ℕ) (t : List ℕ) → (b == 43 || b == 45) ≡ false → is_ascii_digit b ≡ false → whole (b ∷ t) ≡ None
 unfolding whole
-whole_none b t e f = text_none (both sign digits) (b ∷ t) (both_none_after sign digits (b ∷ t) (None, b ∷ t) (sign_none b t e) (digits_none b t f))
+whole_none b t e f = text_none (both sign digits) (b ∷ t)
+    (both_none_after sign digits (b ∷ t) (None, b ∷ t) (sign_none b t e) (digits_none b t f))
 
 pub fractional_none : (s : List ℕ) → whole s ≡ None → fractional s ≡ None
 unfolding fractional
@@ -70,18 +112,22 @@ fractional_none s e = text_none (both whole (both (byte 46) digits)) s (both_non
 pub number_none : (s : List ℕ) → whole s ≡ None → number s ≡ None
 unfolding number
 number_none s e = left_none (either (seen decimal fractional) (seen integer whole)) (not_ahead (one starts_name)) s
-    (either_none (seen decimal fractional) (seen integer whole) s (seen_none decimal fractional s (fractional_none s e)) (seen_none integer whole s e))
+    (either_none (seen decimal fractional) (seen integer whole) s (seen_none decimal fractional s (fractional_none s e))
+    (seen_none integer whole s e))
 
 -- a text that begins with a byte of a name is neither a text between quotes nor a number
 at_name_byte : (b : ℕ) (t : List ℕ) → starts_name b ≡ true → text_or_number (b ∷ t) ≡ None
 at_name_byte b t e = either_none (seen text_literal text_of_quotes) number (b ∷ t)
-    (seen_none text_literal text_of_quotes (b ∷ t) (either_none (quoted 39) (quoted 34) (b ∷ t) (quoted_none 39 b t (not_39 b e)) (quoted_none 34 b t (not_34 b e))))
+    (seen_none text_literal text_of_quotes (b ∷ t)
+    (either_none (quoted 39) (quoted 34) (b ∷ t) (quoted_none 39 b t (not_39 b e)) (quoted_none 34 b t (not_34 b e))))
     (number_none (b ∷ t) (whole_none b t (not_sign b e) (not_digit b e)))
 
 byte_of_name : (b : ℕ) (t : List ℕ) (c : Bool) (x : List ℕ × List ℕ) → starts_name b ≡ c → identifier (b ∷ t) ≡ Some x → c ≡ true
 unfolding identifier
 byte_of_name b t true x e f = refl
-byte_of_name b t false x e f = absurd (none-some x (sym (text_none (both (one starts_name) name_bytes) (b ∷ t) (both_none (one starts_name) name_bytes (b ∷ t) (one_none starts_name b t e))) ∙ f))
+byte_of_name b t false x e f = absurd (none-some x
+    (sym (text_none (both (one starts_name) name_bytes) (b ∷ t)
+    (both_none (one starts_name) name_bytes (b ∷ t) (one_none starts_name b t e))) ∙ f))
 
 no_text_or_number : (s : List ℕ) (x : List ℕ × List ℕ) → identifier s ≡ Some x → text_or_number s ≡ None
 unfolding identifier
@@ -101,16 +147,23 @@ unfolding literal
 literal_by_word s = ap (λ o. option_or o (text_or_number s)) (word_is s)
 
 -- the literal and the name that a text begins with, by its first word
-pub literal_of_word : (s word : List ℕ) (h : Head) (rest : Bor (List ℕ)) → Some (word, rest.now) ≡ identifier s → IsHeadOf word h → literal_in (h, rest) ≡ literal s
+pub literal_of_word : (s word : List ℕ) (h : Head) (rest : Bor (List ℕ)) → Some (word, rest.now) ≡ identifier s → IsHeadOf word h
+    → literal_in (h, rest) ≡ literal s
 literal_of_word s word (head.Literal l) rest e p =
-    let read : Bool → Option (Literal × List ℕ) = λ c. option_or (option_map (λ (a : List ℕ × List ℕ). (word_literal a.0, a.1)) (cond c (Some (word, rest.now)) None)) (text_or_number s) in
+    let read : Bool → Option (Literal × List ℕ) =
+    λ c. option_or (option_map (λ (a : List ℕ × List ℕ). (word_literal a.0, a.1)) (cond c (Some (word, rest.now)) None))
+    (text_or_number s) in
     let made : Literal → Option (Literal × List ℕ) = λ x. Some (x, rest.now) in
     ap made p.1 ∙ ap read (sym p.0) ∙ ap (λ o. option_or (word_in o) (text_or_number s)) e ∙ sym (literal_by_word s)
 literal_of_word s word (head.Name n) rest e p =
-    let read : Bool → Option (Literal × List ℕ) = λ c. option_or (option_map (λ (a : List ℕ × List ℕ). (word_literal a.0, a.1)) (cond c (Some (word, rest.now)) None)) (text_or_number s) in
-    sym (no_text_or_number s (word, rest.now) (sym e)) ∙ ap read (sym p.0) ∙ ap (λ o. option_or (word_in o) (text_or_number s)) e ∙ sym (literal_by_word s)
+    let read : Bool → Option (Literal × List ℕ) =
+    λ c. option_or (option_map (λ (a : List ℕ × List ℕ). (word_literal a.0, a.1)) (cond c (Some (word, rest.now)) None))
+    (text_or_number s) in
+    sym (no_text_or_number s (word, rest.now) (sym e)) ∙ ap read (sym p.0) ∙ ap (λ o. option_or (word_in o) (text_or_number s)) e
+    ∙ sym (literal_by_word s)
 
-pub name_of_word : (s word : List ℕ) (h : Head) (rest : Bor (List ℕ)) → Some (word, rest.now) ≡ identifier s → IsHeadOf word h → name_in (h, rest) ≡ name s
+pub name_of_word : (s word : List ℕ) (h : Head) (rest : Bor (List ℕ)) → Some (word, rest.now) ≡ identifier s → IsHeadOf word h
+    → name_in (h, rest) ≡ name s
 unfolding name
 name_of_word s word (head.Literal l) rest e p =
     let read : Bool → Option (List ℕ × List ℕ) = λ c. cond (not c) (Some (word, rest.now)) None in
@@ -118,7 +171,8 @@ name_of_word s word (head.Literal l) rest e p =
 name_of_word s word (head.Name n) rest e p =
     let read : Bool → Option (List ℕ × List ℕ) = λ c. cond (not c) (Some (word, rest.now)) None in
     let made : List ℕ → Option (List ℕ × List ℕ) = λ x. Some (x, rest.now) in
-    ap made p.1 ∙ ap read (sym p.0) ∙ ap (λ o. option_and_then (λ (a : List ℕ × List ℕ). cond (not (is_literal_word a.0)) (Some a) None) o) e
+    ap made p.1 ∙ ap read (sym p.0) ∙ ap (λ o. option_and_then
+    (λ (a : List ℕ × List ℕ). cond (not (is_literal_word a.0)) (Some a) None) o) e
 
 pub literal_without_word : (s : List ℕ) (o : Option (Literal × List ℕ)) → None ≡ identifier s → o ≡ text_or_number s → o ≡ literal s
 literal_without_word s o e f = f ∙ ap (λ w. option_or (word_in w) (text_or_number s)) e ∙ sym (literal_by_word s)
@@ -128,11 +182,14 @@ unfolding name
 no_name s e = ap (λ o. option_and_then (λ a. cond (not (is_literal_word a.0)) (Some a) None) o) e
 
 -- what is known of a text, from the literal or the name that was found there
-pub literal_found : (s : List ℕ) (p : Head × Bor (List ℕ)) (l : CodeLiteral) → p.0 ≡ head.Literal l → literal_in p ≡ literal s → Some (literal_of l, p.1.now) ≡ literal s
+pub literal_found : (s : List ℕ) (p : Head × Bor (List ℕ)) (l : CodeLiteral) → p.0 ≡ head.Literal l → literal_in p ≡ literal s
+    → Some (literal_of l, p.1.now) ≡ literal s
 literal_found s p l e f = ap (λ h. literal_in (h, p.1)) (sym e) ∙ f
 
-pub name_found : (s : List ℕ) (p : Head × Bor (List ℕ)) (n : Bor (List ℕ)) → p.0 ≡ head.Name n → name_in p ≡ name s → Some (n.now, p.1.now) ≡ name s
+pub name_found : (s : List ℕ) (p : Head × Bor (List ℕ)) (n : Bor (List ℕ)) → p.0 ≡ head.Name n → name_in p ≡ name s
+    → Some (n.now, p.1.now) ≡ name s
 name_found s p n e f = ap (λ h. name_in (h, p.1)) (sym e) ∙ f
 
-pub no_literal_found : (s : List ℕ) (p : Head × Bor (List ℕ)) (n : Bor (List ℕ)) → p.0 ≡ head.Name n → literal_in p ≡ literal s → None ≡ literal s
+pub no_literal_found : (s : List ℕ) (p : Head × Bor (List ℕ)) (n : Bor (List ℕ)) → p.0 ≡ head.Name n → literal_in p ≡ literal s
+    → None ≡ literal s
 no_literal_found s p n e f = ap (λ h. literal_in (h, p.1)) (sym e) ∙ f

@@ -4,7 +4,18 @@ use Rattle.std.proofs.lemmas.Bool.{eqb-true}
 use Rattle.liquid_grammar.specs.meaning.Bytes.{is_white}
 use Rattle.liquid_grammar.specs.meaning.Grammar.{White, Identifier}
 use Rattle.liquid_grammar.specs.meaning.Rules.{Rule, Begins, One, Seen, At, Byte, ◌▷◌, here, instead, Repeated, ends, more}
-use Rattle.liquid_grammar.specs.meaning.Values.{Value, Index, named_index, bracketed_index, placed_bracket, Bracketed, OpenBracket, CloseBracket, ValueRule, IndexRule}
+use Rattle.liquid_grammar.specs.meaning.Values.{
+  Value,
+  Index,
+  named_index,
+  bracketed_index,
+  placed_bracket,
+  Bracketed,
+  OpenBracket,
+  CloseBracket,
+  ValueRule,
+  IndexRule,
+}
 use Rattle.liquid_grammar.specs.meaning.Parts.{NoneLeft, First, IsNamed, IsBracketed}
 use Rattle.liquid_grammar.specs.steps.TokenSteps.{named, open_bracket}
 use Rattle.liquid_grammar.proofs.Exact.{Exact, exact-seen, same_match, none_begins}
@@ -17,13 +28,17 @@ use Rattle.liquid_grammar.proofs.TokenExact.{exact-bracketed, exact-value, exact
 use Rattle.liquid_grammar.proofs.FlatBrackets.{left_some, left_none}
 use Rattle.liquid_grammar.proofs.PartLemmas.{first_part}
 
-pub named_first : (s after name rest : List ℕ) (is : List Index) → Some (name, after) ≡ named s → Repeated IndexRule s rest is → First (λ end i. IsNamed end name after i) (Repeated IndexRule) rest is
+pub named_first : (s after name rest : List ℕ) (is : List Index) → Some (name, after) ≡ named s → Repeated IndexRule s rest is
+    → First (λ end i. IsNamed end name after i) (Repeated IndexRule) rest is
 named_first s after name rest is e ms =
-    let m : IndexRule s after (named_index name) = here (record { from = name; match = exact-named.sound s after name (sym e); is = refl }) in
-    first_part (exact-index exact-value) (λ end i. IsNamed end name after i) s after rest (named_index name) is m (record { is = refl; ends = refl }) ms
+    let m : IndexRule s after (named_index name) =
+    here (record { from = name; match = exact-named.sound s after name (sym e); is = refl }) in
+    first_part (exact-index exact-value) (λ end i. IsNamed end name after i) s after rest (named_index name) is m
+    (record { is = refl; ends = refl }) ms
 
 -- some index is left where one begins
-pub some_left : {A : Type 0} {R : Rule A} (s rest : List ℕ) (parts : List A) → Begins R s → Repeated R s rest parts → ¬ (NoneLeft s rest parts)
+pub some_left : {A : Type 0} {R : Rule A} (s rest : List ℕ) (parts : List A) → Begins R s → Repeated R s rest parts
+    → ¬ (NoneLeft s rest parts)
 some_left s rest parts b (ends none) left = none b
 some_left s rest parts b (more m ms) left = let e = left.none in cc
 
@@ -35,8 +50,10 @@ closes_by : (s t : List ℕ) (b : ℕ) → s ≡ b ∷ t → is_white b ≡ fals
 closes_by s t b e black other c = go s c.match.match.middle c.rest c.match.from.0 c.match.from.1 e c.match.match.before c.match.match.after
   where
     go : (s middle rest : List ℕ) (white : List ℕ) (byte : ℕ) → s ≡ b ∷ t → White s middle white → One (λ x. x == 93) middle rest byte → ⊥
-    go s middle rest white byte e (ends none) close = let h : (b == 93) ≡ true = subst (λ x. (x == 93) ≡ true) (same_byte s _ _ byte b close.front e) close.passes in cc (h, other)
-    go s middle rest white byte e (more {shape = w} m ms) close = let h : is_white b ≡ true = subst (λ x. is_white x ≡ true) (same_byte s _ _ w b m.front e) m.passes in cc (h, black)
+    go s middle rest white byte e (ends none) close = let h : (b == 93) ≡ true =
+        subst (λ x. (x == 93) ≡ true) (same_byte s _ _ byte b close.front e) close.passes in cc (h, other)
+    go s middle rest white byte e (more {shape = w} m ms) close = let h : is_white b ≡ true =
+        subst (λ x. is_white x ≡ true) (same_byte s _ _ w b m.front e) m.passes in cc (h, black)
 
 -- an open bracket is not a close bracket
 pub open_or_close : (s : List ℕ) → Begins OpenBracket s → Begins CloseBracket s → ⊥
@@ -60,24 +77,29 @@ bracket_is : (p b s rest : List ℕ) (v w : Value) → p ≡ s → b ≡ rest �
 bracket_is p b s rest v w e f g = cc
 
 -- the parts of an index in brackets
-bracket_parts : (s rest inner : List ℕ) (i : Index) → None ≡ named s → Some inner ≡ option_map (λ p. p.1) (open_bracket s) → IndexRule s rest i → IsBracketed s rest inner i
-bracket_parts s rest inner i none e (here m) = absurd (none_begins exact-named s (sym none) (record { rest = rest; shape = m.from; match = m.match }))
+bracket_parts : (s rest inner : List ℕ) (i : Index) → None ≡ named s → Some inner ≡ option_map (λ p. p.1) (open_bracket s)
+    → IndexRule s rest i → IsBracketed s rest inner i
+bracket_parts s rest inner i none e (here m) =
+    absurd (none_begins exact-named s (sym none) (record { rest = rest; shape = m.from; match = m.match }))
 bracket_parts s rest inner i none e (instead unmatched m) =
     let x = left_some (open_bracket s) inner e in
     let whole = m.match.match in
     let opened = whole.match.before.match in
-    let same = same_match exact-open_bracket s opened.middle x.0.1 whole.match.before.from.0 x.0.0 opened.before (exact-open_bracket.sound s x.0.1 x.0.0 x.1) in
+    let same = same_match exact-open_bracket s opened.middle x.0.1 whole.match.before.from.0 x.0.0 opened.before
+    (exact-open_bracket.sound s x.0.1 x.0.0 x.1) in
     let what : m.from.what ≡ whole.match.before.from.1 = whole.is ∙ whole.match.before.is in
     record {
       value = whole.match.before.from.1;
       following = whole.match.middle;
       byte = whole.from.1;
       is = m.is ∙ bracket_is m.from.place m.from.following s rest m.from.what whole.match.before.from.1 m.match.begins m.match.ends what;
-      match = subst (λ t. ValueRule t whole.match.middle whole.match.before.from.1) (ap (λ (p : List ℕ × List ℕ). p.1) same ∙ x.2) opened.after;
+      match = subst (λ t. ValueRule t whole.match.middle whole.match.before.from.1)
+          (ap (λ (p : List ℕ × List ℕ). p.1) same ∙ x.2) opened.after;
       closes = whole.match.after;
     }
 
-pub bracket_first : (s rest inner : List ℕ) (is : List Index) → None ≡ named s → Some inner ≡ option_map (λ p. p.1) (open_bracket s) → ¬ (NoneLeft s rest is) → Repeated IndexRule s rest is
+pub bracket_first : (s rest inner : List ℕ) (is : List Index) → None ≡ named s → Some inner ≡ option_map (λ p. p.1) (open_bracket s)
+    → ¬ (NoneLeft s rest is) → Repeated IndexRule s rest is
     → First (λ end i. IsBracketed s end inner i) (Repeated IndexRule) rest is
 bracket_first s rest inner is none e some (ends unmatched) = absurd (some (record { none = refl; ends = refl }))
 bracket_first s rest inner is none e some (more {middle = middle} {shape = i} {shapes = others} m ms) =
@@ -89,14 +111,17 @@ bracket_begins s none b =
     record {
       rest = b.rest;
       shape = b.shape;
-      match = instead (λ (n : Begins (Seen named_index (Byte 46 ▷ Identifier)) s). none_begins exact-named s (sym none) (record { rest = n.rest; shape = n.match.from; match = n.match.match })) b.match;
+      match = instead (λ (n : Begins (Seen named_index (Byte 46 ▷ Identifier)) s). none_begins exact-named s (sym none)
+          (record { rest = n.rest; shape = n.match.from; match = n.match.match })) b.match;
     }
 
 -- inside brackets an index is left if no bracket closes them
-pub inside_left : (s rest inner : List ℕ) (is : List Index) → Some inner ≡ option_map (λ p. p.1) (open_bracket s) → Begins CloseBracket rest → ¬ (NoneLeft s rest is)
+pub inside_left : (s rest inner : List ℕ) (is : List Index) → Some inner ≡ option_map (λ p. p.1) (open_bracket s)
+    → Begins CloseBracket rest → ¬ (NoneLeft s rest is)
 inside_left s rest inner is e close left =
     let x = left_some (open_bracket s) inner e in
-    open_or_close s (record { rest = x.0.1; shape = x.0.0; match = exact-open_bracket.sound s x.0.1 x.0.0 x.1 }) (subst (λ t. Begins CloseBracket t) left.ends close)
+    open_or_close s (record { rest = x.0.1; shape = x.0.0; match = exact-open_bracket.sound s x.0.1 x.0.0 x.1 })
+    (subst (λ t. Begins CloseBracket t) left.ends close)
 
 -- no index begins without a name and without an open bracket
 pub no_index : (s : List ℕ) → None ≡ named s → None ≡ option_map (λ p. p.1) (open_bracket s) → ¬ (Begins IndexRule s)

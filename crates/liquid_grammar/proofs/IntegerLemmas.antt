@@ -1,5 +1,40 @@
 -- The number of an integer literal.
-use Rattle.std.proofs.Common.{◌≡◌, ℕ, ◌^◌, ◌<◌, ◌≤◌, ◌==◌, ◌&&◌, Bool, true, false, cond, List, length, drop, get_or, Option, Some, None, Result, Ok, Err, ℤ, pos, neg_ℤ, rules, refl, sym, ap, ap₂, ◌∙◌, arith, w64, OkIff, eqb-true}
+use Rattle.std.proofs.Common.{
+  ◌≡◌,
+  ℕ,
+  ◌^◌,
+  ◌<◌,
+  ◌≤◌,
+  ◌==◌,
+  ◌&&◌,
+  Bool,
+  true,
+  false,
+  cond,
+  List,
+  length,
+  drop,
+  get_or,
+  Option,
+  Some,
+  None,
+  Result,
+  Ok,
+  Err,
+  ℤ,
+  pos,
+  neg_ℤ,
+  rules,
+  refl,
+  sym,
+  ap,
+  ap₂,
+  ◌∙◌,
+  arith,
+  w64,
+  OkIff,
+  eqb-true,
+}
 use Rattle.std.specs.Result.{result_ok}
 use Rattle.std.specs.Str.{all_ascii_digits}
 use Rattle.std.specs.Str.Parse.{ParsesSigned, digits_value}
@@ -12,7 +47,8 @@ own : IsNumeralModel (λ ds. all_ascii_digits ds ≡ true) (digits_value 10)
 own = numerals_by_value _ (search rules)
 
 -- a test decides what the result depends on
-by_test : {E : Type 0} (t : Bool) (C : Type 0) (x : ℤ) (r : Result ℤ E) → (t ≡ true → C) → (C → t ≡ true) → OkIff r C x → cond t (Some x) None ≡ result_ok r
+by_test : {E : Type 0} (t : Bool) (C : Type 0) (x : ℤ) (r : Result ℤ E) → (t ≡ true → C) → (C → t ≡ true) → OkIff r C x
+    → cond t (Some x) None ≡ result_ok r
 by_test true C x (Ok y) f g h = ap (λ z. Some z) (sym h.1)
 by_test true C x (Err e) f g h = absurd (h (f refl))
 by_test false C x (Ok y) f g h = absurd (false≢true (g h.0))
@@ -55,7 +91,8 @@ integer_from_parse {E} bs r h = go (get_or bs 0 0 == 45) (get_or bs 0 0 == 43) r
     read : Bool → Bool → Option ℤ
     read m p = read_integer m (cond m (drop 1 bs) (drop (cond p 1 0) bs))
 
-    go : (m p : Bool) → (get_or bs 0 0 == 45) ≡ m → (get_or bs 0 0 == 43) ≡ p → read (get_or bs 0 0 == 45) (get_or bs 0 0 == 43) ≡ result_ok r
+    go : (m p : Bool) → (get_or bs 0 0 == 45) ≡ m → (get_or bs 0 0 == 43) ≡ p → read (get_or bs 0 0 == 45)
+        (get_or bs 0 0 == 43) ≡ result_ok r
     go true p e f = ap₂ read e f ∙ minus (eqb-true _ 45 e)
     go false true e f = ap₂ read e f ∙ plus (eqb-true _ 43 f)
     go false false e f = ap₂ read e f ∙ plain (eqb-false _ 43 f) (eqb-false _ 45 e)

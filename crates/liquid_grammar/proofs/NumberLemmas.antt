@@ -16,7 +16,8 @@ cut_shape : (s text : List ℕ) (o : Option ((ℕ × List ℕ) × List ℕ))
 cut_shape s text (Some b) = refl
 cut_shape s text None = refl
 
-fractional_is : (s text end : List ℕ) → Some (text, end) ≡ whole s → fractional s ≡ option_map (λ r. (take (length s - length r) s, r)) (option_map (λ p. p.1) (fraction end))
+fractional_is : (s text end : List ℕ) → Some (text, end) ≡ whole s → fractional s ≡ option_map (λ r. (take (length s - length r) s, r))
+    (option_map (λ p. p.1) (fraction end))
 unfolding fractional
 fractional_is s text end e =
     let cut : (List ℕ × (ℕ × List ℕ)) × List ℕ → Cut = λ a. (take (length s - length a.1) s, a.1) in
@@ -26,16 +27,20 @@ fractional_is s text end e =
 abbrev numbers : Option Cut → Option Cut → Option (Literal × List ℕ)
 numbers d i = option_or (option_map (λ a. (decimal a.0, a.1)) d) (option_map (λ a. (integer a.0, a.1)) i)
 
-pub with_fraction : (s text end rest front : List ℕ) → Some (text, end) ≡ whole s → Some rest ≡ option_map (λ p. p.1) (fraction end) → front ≡ take (length s - length rest) s → Some (decimal front, rest) ≡ longest_number s
+pub with_fraction : (s text end rest front : List ℕ) → Some (text, end) ≡ whole s → Some rest ≡ option_map (λ p. p.1) (fraction end)
+    → front ≡ take (length s - length rest) s → Some (decimal front, rest) ≡ longest_number s
 with_fraction s text end rest front e f is =
     let cut : List ℕ → Cut = λ r. (take (length s - length r) s, r) in
     let made : List ℕ → Option (Literal × List ℕ) = λ t. Some (decimal t, rest) in
     ap made is ∙ ap (λ o. numbers (option_map cut o) (whole s)) f ∙ ap (λ o. numbers o (whole s)) (sym (fractional_is s text end e))
 
-pub without_fraction : (s text end : List ℕ) → Some (text, end) ≡ whole s → None ≡ option_map (λ p. p.1) (fraction end) → Some (integer text, end) ≡ longest_number s
+pub without_fraction : (s text end : List ℕ) → Some (text, end) ≡ whole s → None ≡ option_map (λ p. p.1) (fraction end)
+    → Some (integer text, end) ≡ longest_number s
 without_fraction s text end e f =
     let cut : List ℕ → Cut = λ r. (take (length s - length r) s, r) in
-    ap (λ o. numbers None o) e ∙ ap (λ o. numbers (option_map cut o) (whole s)) f ∙ ap (λ o. numbers o (whole s)) (sym (fractional_is s text end e))
+    ap (λ o. numbers None o) e ∙ ap (λ o. numbers (option_map cut o) (whole s)) f
+    ∙ ap (λ o. numbers o (whole s)) (sym (fractional_is s text end e))
 
 pub no_longest : (s : List ℕ) → None ≡ whole s → None ≡ longest_number s
-no_longest s e = sym (either_none (seen decimal fractional) (seen integer whole) s (seen_none decimal fractional s (fractional_none s (sym e))) (seen_none integer whole s (sym e)))
+no_longest s e = sym (either_none (seen decimal fractional) (seen integer whole) s
+    (seen_none decimal fractional s (fractional_none s (sym e))) (seen_none integer whole s (sym e)))

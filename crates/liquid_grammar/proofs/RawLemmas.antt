@@ -1,5 +1,50 @@
 -- Where an opener begins, in one pass over a text.
-use Rattle.std.proofs.Common.{◌≡◌, ℕ, zero, suc, ◌-◌, ◌+◌, ◌<◌, ◌≤◌, Bool, true, false, cond, ◌&&◌, ◌||◌, ◌==◌, List, [], ◌∷◌, length, get_or, take, drop, slice_index, Option, Some, None, is_some, option_map, option_and_then, refl, sym, ap, ap₂, ◌∙◌, inl, inr, subst, arith, add-zero, get_or-drop, drop_of_length-le, eqb-true, eq-eqb, ne_eqb}
+use Rattle.std.proofs.Common.{
+  ◌≡◌,
+  ℕ,
+  zero,
+  suc,
+  ◌-◌,
+  ◌+◌,
+  ◌<◌,
+  ◌≤◌,
+  Bool,
+  true,
+  false,
+  cond,
+  ◌&&◌,
+  ◌||◌,
+  ◌==◌,
+  List,
+  [],
+  ◌∷◌,
+  length,
+  get_or,
+  take,
+  drop,
+  slice_index,
+  Option,
+  Some,
+  None,
+  is_some,
+  option_map,
+  option_and_then,
+  refl,
+  sym,
+  ap,
+  ap₂,
+  ◌∙◌,
+  inl,
+  inr,
+  subst,
+  arith,
+  add-zero,
+  get_or-drop,
+  drop_of_length-le,
+  eqb-true,
+  eq-eqb,
+  ne_eqb,
+}
 use Rattle.std.proofs.lemmas.Bool.{cases_lt, and_parts}
 use Rattle.std.proofs.lemmas.Bool.Decides.{nat_tests}
 use Rattle.std.proofs.lemmas.List.{drop_more}
@@ -8,7 +53,19 @@ use Rattle.std.specs.Option.{option_or}
 use Rattle.std.specs.List.{prefix_len}
 use Rattle.liquid_grammar.specs.meaning.Bytes.{is_white}
 use Rattle.liquid_grammar.specs.meaning.Grammar.{Opens}
-use Rattle.liquid_grammar.specs.steps.Steps.{Reader, byte, right, white, braces, dashed_opener, opener, any_opener, begins_braces, white_start, EndsRaw}
+use Rattle.liquid_grammar.specs.steps.Steps.{
+  Reader,
+  byte,
+  right,
+  white,
+  braces,
+  dashed_opener,
+  opener,
+  any_opener,
+  begins_braces,
+  white_start,
+  EndsRaw,
+}
 use Rattle.liquid_grammar.proofs.TextLemmas.{is_white_ascii}
 use Rattle.liquid_grammar.proofs.Exact.{begins_found, found_begins}
 use Rattle.liquid_grammar.proofs.GrammarExact.{is_some-map, exact-any_opener}
@@ -69,7 +126,8 @@ dashed_other b s e =
     let one_kind = λ (kind : ℕ). dashed_after kind (b ∷ s) ∙ ap (marked kind) (after_none b s e) in
     ap₂ (λ x y. x || y) (one_kind 123) (one_kind 37)
 
-opens_parts : (s : List ℕ) → opens s ≡ (is_some (dashed_opener 123 s) || is_some (braces 123 s)) || (is_some (dashed_opener 37 s) || is_some (braces 37 s))
+opens_parts : (s : List ℕ) → opens s ≡ (is_some (dashed_opener 123 s) || is_some (braces 123 s)) ||
+    (is_some (dashed_opener 37 s) || is_some (braces 37 s))
 unfolding any_opener opener
 opens_parts s =
     is_some-or (option_or (dashed_opener 123 s) (braces 123 s)) (option_or (dashed_opener 37 s) (braces 37 s))
@@ -97,7 +155,8 @@ marked_shape : (t : Bool) (b : ℕ) (g : Reader ℕ) (s : List ℕ)
     let second : ℕ × List ℕ → Option ((ℕ × ℕ) × List ℕ) = λ x. option_map (λ b. ((x.0, b.0), b.1)) (g x.1) in
     let k : ℕ × List ℕ → Option ((ℕ × ℕ) × List ℕ) = λ x. option_map (λ b. ((x.0, b.0), b.1)) (byte 45 x.1) in
     let h : (ℕ × ℕ) × List ℕ → ℕ × List ℕ = λ x. (x.0.1, x.1) in
-    is_some (option_map h (option_and_then k (option_map h (option_and_then second (cond t x None))))) ≡ t && is_some (option_map h (option_and_then k (g s)))
+    is_some (option_map h (option_and_then k (option_map h (option_and_then second (cond t x None))))) ≡ t && is_some
+    (option_map h (option_and_then k (g s)))
 marked_shape true b g s = dash_shape b (g s)
   where
     dash_shape : (b : ℕ) (o : Option (ℕ × List ℕ))
@@ -133,7 +192,8 @@ marked_flag : (kind b : ℕ) (s : List ℕ) → marked kind (b ∷ s) ≡ ((b ==
 unfolding braces
 marked_flag kind b [] = marked_shape (b == 123) b (byte kind) [] ∙ and_false (b == 123) (0 == kind)
 marked_flag kind b (c ∷ s) =
-    marked_shape (b == 123) b (byte kind) (c ∷ s) ∙ ap (λ t. (b == 123) && t) (dash_flag (c == kind) c s) ∙ and_assoc (b == 123) (c == kind) (slice_index s 0 == 45)
+    marked_shape (b == 123) b (byte kind) (c ∷ s) ∙ ap (λ t. (b == 123) && t) (dash_flag (c == kind) c s)
+    ∙ and_assoc (b == 123) (c == kind) (slice_index s 0 == 45)
 
 either_kind : (t x y d : Bool) → ((t && x) && d) || ((t && y) && d) ≡ (t && (x || y)) && d
 either_kind true true y true = refl
@@ -156,8 +216,11 @@ turn_white : (b : ℕ) (s : List ℕ) → is_white b ≡ true → (opens (b ∷ 
 turn_white b s e =
     let other : (b == 123) ≡ false = grind (arith, nat_tests) in
     let none = λ (kind : ℕ) (z : (0 == kind) ≡ false). braces_flag kind b s z ∙ ap (λ t. t && (slice_index s 0 == kind)) other in
-    let same = dashed_white b s e in
-    (opens_parts (b ∷ s) ∙ ap₂ (λ x y. (is_some (dashed_opener 123 (b ∷ s)) || x) || (is_some (dashed_opener 37 (b ∷ s)) || y)) (none 123 refl) (none 37 refl) ∙ or_false (is_some (dashed_opener 123 (b ∷ s))) (is_some (dashed_opener 37 (b ∷ s))) ∙ same, same)
+    let same = dashed_white b s e in (
+      opens_parts (b ∷ s) ∙ ap₂ (λ x y. (is_some (dashed_opener 123 (b ∷ s)) || x) || (is_some (dashed_opener 37 (b ∷ s)) || y))
+          (none 123 refl) (none 37 refl) ∙ or_false (is_some (dashed_opener 123 (b ∷ s))) (is_some (dashed_opener 37 (b ∷ s))) ∙ same,
+      same,
+    )
   where
     or_false : (x y : Bool) → (x || false) || (y || false) ≡ x || y
     or_false true y = refl
@@ -174,7 +237,8 @@ turn_other b s e =
     let x = slice_index s 0 == 123 in
     let y = slice_index s 0 == 37 in
     let d = slice_index s 1 == 45 in (
-      opens_parts (b ∷ s) ∙ ap₂ (λ p q. p || q) (ap₂ (λ p q. p || q) (f 123) (braces_flag 123 b s refl)) (ap₂ (λ p q. p || q) (f 37) (braces_flag 37 b s refl)) ∙ dashed_or_not at x y d,
+      opens_parts (b ∷ s) ∙ ap₂ (λ p q. p || q) (ap₂ (λ p q. p || q) (f 123) (braces_flag 123 b s refl))
+          (ap₂ (λ p q. p || q) (f 37) (braces_flag 37 b s refl)) ∙ dashed_or_not at x y d,
       ap₂ (λ p q. p || q) (f 123) (f 37) ∙ either_kind at x y d,
     )
 
@@ -186,13 +250,15 @@ second_byte s i =
     let more : i + 1 + 1 ≡ i + 2 = omega arith in
     get_or-drop (i + 1) s 1 0 ∙ ap (λ k. get_or s k 0) more
 
-white_at : (s : List ℕ) (i : ℕ) → i < length s → is_white (get_or s i 0) ≡ true → (opens (drop i s) ≡ dashed (drop (i + 1) s)) × (dashed (drop i s) ≡ dashed (drop (i + 1) s))
+white_at : (s : List ℕ) (i : ℕ) → i < length s → is_white (get_or s i 0) ≡ true → (opens (drop i s) ≡ dashed (drop (i + 1) s))
+    × (dashed (drop i s) ≡ dashed (drop (i + 1) s))
 white_at s i h e =
     let t = turn_white (get_or s i 0) (drop (i + 1) s) e in
     let m = sym (drop_more s i 0 h) in
     subst (λ (x : List ℕ). (opens x ≡ dashed (drop (i + 1) s)) × (dashed x ≡ dashed (drop (i + 1) s))) m t
 
-other_at : (s : List ℕ) (i : ℕ) → i < length s → is_white (get_or s i 0) ≡ false → (opens (drop i s) ≡ begins_braces s i) × (dashed (drop i s) ≡ (begins_braces s i && (slice_index s (i + 2) == 45)))
+other_at : (s : List ℕ) (i : ℕ) → i < length s → is_white (get_or s i 0) ≡ false → (opens (drop i s) ≡ begins_braces s i)
+    × (dashed (drop i s) ≡ (begins_braces s i && (slice_index s (i + 2) == 45)))
 other_at s i h e =
     let t = turn_other (get_or s i 0) (drop (i + 1) s) e in
     let m = sym (drop_more s i 0 h) in
@@ -212,7 +278,8 @@ pub record Passed (s : List ℕ) (white at : ℕ) : Type 0 where
 pub passed_none : (s : List ℕ) → Passed s 0 0
 passed_none s = record { order = omega arith; closed = λ k h. absurd (omega arith); same = λ k l h. absurd (omega arith) }
 
-pub passed_white : (s : List ℕ) (white at : ℕ) → at < length s → Passed s white at → is_white (get_or s at 0) ≡ true → Passed s white (at + 1)
+pub passed_white : (s : List ℕ) (white at : ℕ) → at < length s → Passed s white at → is_white (get_or s at 0) ≡ true
+    → Passed s white (at + 1)
 passed_white s white at h p e =
     let t = white_at s at h e in
     record {
@@ -224,7 +291,8 @@ passed_white s white at h p e =
       ];
     }
 
-pub passed_other : (s : List ℕ) (white at : ℕ) → at < length s → Passed s white at → is_white (get_or s at 0) ≡ false → begins_braces s at ≡ false → Passed s (at + 1) (at + 1)
+pub passed_other : (s : List ℕ) (white at : ℕ) → at < length s → Passed s white at → is_white (get_or s at 0) ≡ false
+    → begins_braces s at ≡ false → Passed s (at + 1) (at + 1)
 passed_other s white at h p e none =
     let t = other_at s at h e in
     record {
@@ -244,7 +312,8 @@ abbrev pub Braceless : List ℕ → ℕ → ℕ → Type 0
 Braceless s from at = (k : ℕ) → from ≤ k → k < at → ¬ ((slice_index s k == 123) ≡ true)
 
 -- one more byte that is not an open brace
-passed_step : (s : List ℕ) (white at : ℕ) → at < length s → ¬ ((slice_index s at == 123) ≡ true) → Passed s white at → Passed s (cond (is_white (slice_index s at)) white (at + 1)) (at + 1)
+passed_step : (s : List ℕ) (white at : ℕ) → at < length s → ¬ ((slice_index s at == 123) ≡ true) → Passed s white at
+    → Passed s (cond (is_white (slice_index s at)) white (at + 1)) (at + 1)
 passed_step s white at h none p = go (is_white (slice_index s at)) refl
   where
     no_braces : (t : Bool) → (slice_index s at == 123) ≡ t → begins_braces s at ≡ false
@@ -256,40 +325,49 @@ passed_step s white at h none p = go (is_white (slice_index s at)) refl
     go false e = passed_other s white at h p e (no_braces (slice_index s at == 123) refl)
 
 -- what was passed after `from` without an open brace
-passed_on : (s : List ℕ) (from n : ℕ) → from + n ≤ length s → Passed s from from → Braceless s from (from + n) → Passed s (white_start s from n) (from + n)
+passed_on : (s : List ℕ) (from n : ℕ) → from + n ≤ length s → Passed s from from → Braceless s from (from + n)
+    → Passed s (white_start s from n) (from + n)
 unfolding white_start
 passed_on s from zero h p none = let same : from ≡ from + 0 = omega arith in subst (λ x. Passed s from x) same p
 passed_on s from (suc n) h p none =
     let next : from + n + 1 ≡ from + suc n = omega arith in
     let before = passed_on s from n (omega arith) p (λ k l u. none k l (omega arith)) in
-    subst (λ x. Passed s (white_start s from (suc n)) x) next (passed_step s (white_start s from n) (from + n) (omega arith) (none (from + n) (omega arith) (omega arith)) before)
+    subst (λ x. Passed s (white_start s from (suc n)) x) next
+    (passed_step s (white_start s from n) (from + n) (omega arith) (none (from + n) (omega arith) (omega arith)) before)
 
-pub passed_to : (s : List ℕ) (from at : ℕ) → from ≤ at → at ≤ length s → Passed s from from → Braceless s from at → Passed s (white_start s from (at - from)) at
+pub passed_to : (s : List ℕ) (from at : ℕ) → from ≤ at → at ≤ length s → Passed s from from → Braceless s from at
+    → Passed s (white_start s from (at - from)) at
 passed_to s from at l h p none =
     let same : from + (at - from) ≡ at = omega (arith, l) in
-    subst (λ x. Passed s (white_start s from (at - from)) x) same (passed_on s from (at - from) (omega (arith, l, h)) p (λ k lo hi. none k lo (omega (arith, l, hi))))
+    subst (λ x. Passed s (white_start s from (at - from)) x) same
+    (passed_on s from (at - from) (omega (arith, l, h)) p (λ k lo hi. none k lo (omega (arith, l, hi))))
 
 -- after an open brace that begins no opener
-pub passed_brace : (s : List ℕ) (from at : ℕ) → from ≤ at → at < length s → Passed s from from → Braceless s from at → (slice_index s at == 123) ≡ true → begins_braces s at ≡ false → Passed s (at + 1) (at + 1)
+pub passed_brace : (s : List ℕ) (from at : ℕ) → from ≤ at → at < length s → Passed s from from → Braceless s from at
+    → (slice_index s at == 123) ≡ true → begins_braces s at ≡ false → Passed s (at + 1) (at + 1)
 passed_brace s from at l h p none e other =
     let b : slice_index s at ≡ 123 = eqb-true (slice_index s at) 123 e in
     passed_other s (white_start s from (at - from)) at h (passed_to s from at l (omega (arith, h)) p none) (ap is_white b) other
 
 -- the white space before an index begins where the byte before it is not white, or at `from`
-pub white_start_less : (s : List ℕ) (from at : ℕ) → from < at → is_white (slice_index s (at - 1)) ≡ true → white_start s from (at - from) ≡ white_start s from (at - 1 - from)
+pub white_start_less : (s : List ℕ) (from at : ℕ) → from < at → is_white (slice_index s (at - 1)) ≡ true
+    → white_start s from (at - from) ≡ white_start s from (at - 1 - from)
 unfolding white_start
 white_start_less s from at h e =
     let len : at - from ≡ suc (at - 1 - from) = omega (arith, h) in
     let place : from + (at - 1 - from) ≡ at - 1 = omega (arith, h) in
-    ap (white_start s from) len ∙ ap (λ t. cond t (white_start s from (at - 1 - from)) (from + (at - 1 - from) + 1)) (ap (λ k. is_white (slice_index s k)) place ∙ e)
+    ap (white_start s from) len ∙ ap (λ t. cond t (white_start s from (at - 1 - from)) (from + (at - 1 - from) + 1))
+    (ap (λ k. is_white (slice_index s k)) place ∙ e)
 
-pub white_start_here : (s : List ℕ) (from at : ℕ) → from < at → is_white (slice_index s (at - 1)) ≡ false → white_start s from (at - from) ≡ at
+pub white_start_here : (s : List ℕ) (from at : ℕ) → from < at → is_white (slice_index s (at - 1)) ≡ false
+    → white_start s from (at - from) ≡ at
 unfolding white_start
 white_start_here s from at h e =
     let len : at - from ≡ suc (at - 1 - from) = omega (arith, h) in
     let place : from + (at - 1 - from) ≡ at - 1 = omega (arith, h) in
     let next : from + (at - 1 - from) + 1 ≡ at = omega (arith, h) in
-    ap (white_start s from) len ∙ ap (λ t. cond t (white_start s from (at - 1 - from)) (from + (at - 1 - from) + 1)) (ap (λ k. is_white (slice_index s k)) place ∙ e) ∙ next
+    ap (white_start s from) len ∙ ap (λ t. cond t (white_start s from (at - 1 - from)) (from + (at - 1 - from) + 1))
+    (ap (λ k. is_white (slice_index s k)) place ∙ e) ∙ next
 
 pub white_start_from : (s : List ℕ) (from at : ℕ) → at ≡ from → white_start s from (at - from) ≡ from
 unfolding white_start
@@ -326,7 +404,8 @@ pub ends_here : (s : List ℕ) → 0 < length s → begins_braces s 0 ≡ true �
 ends_here s h e = ends_at s 0 h (λ k u. absurd (omega (arith, u))) ((other_at s 0 h (braces_ascii s 0 e).1).0 ∙ e)
 
 -- braces with no dash end it
-pub ends_at_braces : (s : List ℕ) (white at : ℕ) → at < length s → Passed s white at → begins_braces s at ≡ true → ¬ (slice_index s (at + 2) ≡ 45) → EndsRaw s at
+pub ends_at_braces : (s : List ℕ) (white at : ℕ) → at < length s → Passed s white at → begins_braces s at ≡ true
+    → ¬ (slice_index s (at + 2) ≡ 45) → EndsRaw s at
 ends_at_braces s white at h p e other =
     let dash : (slice_index s (at + 2) == 45) ≡ false = ne_eqb _ _ other in
     let t = other_at s at h (braces_ascii s at e).1 in
@@ -337,7 +416,8 @@ ends_at_braces s white at h p e other =
     ends_at s at h closed (t.0 ∙ e)
 
 -- braces with a dash end it before their white space
-pub ends_at_white : (s : List ℕ) (white at : ℕ) → at < length s → Passed s white at → begins_braces s at ≡ true → slice_index s (at + 2) ≡ 45 → EndsRaw s white
+pub ends_at_white : (s : List ℕ) (white at : ℕ) → at < length s → Passed s white at → begins_braces s at ≡ true
+    → slice_index s (at + 2) ≡ 45 → EndsRaw s white
 ends_at_white s white at h p e same =
     let dash : (slice_index s (at + 2) == 45) ≡ true = eq-eqb _ _ same in
     let t = other_at s at h (braces_ascii s at e).1 in

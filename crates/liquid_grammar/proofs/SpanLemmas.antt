@@ -1,10 +1,56 @@
 -- Each rule leaves a text as its rest, and the spans of its shape are slices of the text.
-use Rattle.std.proofs.Common.{◌≡◌, ℕ, ◌<◌, Bool, true, ◌==◌, List, [], ◌∷◌, ◌++◌, Option, Some, None, IsUtf8, refl, sym, ap, ◌∙◌, subst, arith, append_assoc, length-append, eqb-true}
+use Rattle.std.proofs.Common.{
+  ◌≡◌,
+  ℕ,
+  ◌<◌,
+  Bool,
+  true,
+  ◌==◌,
+  List,
+  [],
+  ◌∷◌,
+  ◌++◌,
+  Option,
+  Some,
+  None,
+  IsUtf8,
+  refl,
+  sym,
+  ap,
+  ◌∙◌,
+  subst,
+  arith,
+  append_assoc,
+  length-append,
+  eqb-true,
+}
 use Rattle.std.proofs.lemmas.List.{append-nil}
 use Rattle.std.proofs.lemmas.Str.{IsCharBoundary-after_ascii, IsCharBoundary-at_seam, IsUtf8-drop}
 use Rattle.std.specs.Prelude.{⊤}
 use Rattle.std.specs.Str.{IsCharBoundary}
-use Rattle.liquid_grammar.specs.meaning.Rules.{Rule, One, Then, Else, here, instead, Repeated, ends, more, Seen, Where, Text, Ahead, Not, Nothing, Placed, At, Byte, Optional, ◌▷◌, ◌◁◌}
+use Rattle.liquid_grammar.specs.meaning.Rules.{
+  Rule,
+  One,
+  Then,
+  Else,
+  here,
+  instead,
+  Repeated,
+  ends,
+  more,
+  Seen,
+  Where,
+  Text,
+  Ahead,
+  Not,
+  Nothing,
+  Placed,
+  At,
+  Byte,
+  Optional,
+  ◌▷◌,
+  ◌◁◌,
+}
 use Rattle.liquid_grammar.specs.laws.Spans.{Span, IsSlice, AreSlices, spans_of_all}
 
 -- the rest is an end of the text, and is a text itself
@@ -38,7 +84,8 @@ slice_of s place following a b =
       joined = whole;
       place = b.is;
       begins = IsCharBoundary-at_seam s a.front place a.is a.text;
-      ends = subst (λ n. IsCharBoundary s n) (length-append a.front b.front) (IsCharBoundary-at_seam s (a.front ++ b.front) following whole b.text);
+      ends = subst (λ n. IsCharBoundary s n) (length-append a.front b.front)
+          (IsCharBoundary-at_seam s (a.front ++ b.front) following whole b.text);
     }
 
 -- the place is an end of the text, and the place after it an end of that
@@ -76,7 +123,8 @@ spans-one p low = record {
 pub spans-byte : (b : ℕ) → b < 128 → Spans (Byte b) no_spans
 spans-byte b low = spans-one (λ c. c == b) (λ c e. subst (λ (x : ℕ). x < 128) (sym (eqb-true c b e)) low)
 
-pub spans-then : {A B : Type 0} {R : Rule A} {S : Rule B} {f : A → List Span} {g : B → List Span} → Spans R f → Spans S g → Spans (Then R S) (λ p. f p.0 ++ g p.1)
+pub spans-then : {A B : Type 0} {R : Rule A} {S : Rule B} {f : A → List Span} {g : B → List Span} → Spans R f → Spans S g
+    → Spans (Then R S) (λ p. f p.0 ++ g p.1)
 spans-then {f = f} {g = g} R S = record {
   of = λ s rest a m u.
       let r = R.of s m.middle a.0 m.before u in
@@ -84,14 +132,16 @@ spans-then {f = f} {g = g} R S = record {
       (reach_on s m.middle rest r.0 q.0, join_all s (f a.0) (g a.1) r.1 (lift_all s m.middle (g a.1) r.0 q.1));
 }
 
-else_of : {A : Type 0} {R S : Rule A} {f : A → List Span} → Spans R f → Spans S f → (s rest : List ℕ) (a : A) → Else R S s rest a → IsUtf8 s → Reaches s rest × AllInside s (f a)
+else_of : {A : Type 0} {R S : Rule A} {f : A → List Span} → Spans R f → Spans S f → (s rest : List ℕ) (a : A) → Else R S s rest a
+    → IsUtf8 s → Reaches s rest × AllInside s (f a)
 else_of R S s rest a (here m) u = R.of s rest a m u
 else_of R S s rest a (instead none m) u = S.of s rest a m u
 
 pub spans-else : {A : Type 0} {R S : Rule A} {f : A → List Span} → Spans R f → Spans S f → Spans (Else R S) f
 spans-else R S = record { of = else_of R S }
 
-repeated_of : {A : Type 0} {R : Rule A} {f : A → List Span} → Spans R f → (s rest : List ℕ) (a : List A) → Repeated R s rest a → IsUtf8 s → Reaches s rest × AllInside s (spans_of_all f a)
+repeated_of : {A : Type 0} {R : Rule A} {f : A → List Span} → Spans R f → (s rest : List ℕ) (a : List A) → Repeated R s rest a → IsUtf8 s
+    → Reaches s rest × AllInside s (spans_of_all f a)
 repeated_of {f = f} R s rest a (ends none) u = (reach_self s u, tt)
 repeated_of {f = f} R s rest a (more {middle = middle} {shape = x} {shapes = xs} m onward) u =
     let r = R.of s middle x m u in
@@ -106,7 +156,8 @@ pub spans-run : {A : Type 0} {R : Rule A} → Spans R no_spans → Spans (Repeat
 spans-run R = record { of = λ s rest a m u. ((repeated_of R s rest a m u).0, tt) }
 
 -- with another shape that has the same spans
-pub spans-seen : {A B : Type 0} {R : Rule A} {f : A → List Span} {g : B → List Span} (h : A → B) → ((a : A) → f a ≡ g (h a)) → Spans R f → Spans (Seen h R) g
+pub spans-seen : {A B : Type 0} {R : Rule A} {f : A → List Span} {g : B → List Span} (h : A → B) → ((a : A) → f a ≡ g (h a)) → Spans R f
+    → Spans (Seen h R) g
 spans-seen {g = g} h same R = record {
   of = λ s rest b m u.
       let r = R.of s rest m.from m.match u in
@@ -126,7 +177,10 @@ pub spans-ahead : {A : Type 0} {R : Rule A} → Spans (Ahead R) no_spans
 spans-ahead = record { of = λ s rest a m u. (subst (Reaches s) (sym m.stays) (reach_self s u), tt) }
 
 pub spans-nothing : {A : Type 0} {f : A → List Span} (a : A) → [] ≡ f a → Spans (Nothing a) f
-spans-nothing {f = f} a same = record { of = λ s rest b m u. (subst (Reaches s) (sym m.stays) (reach_self s u), subst (AllInside s) (same ∙ ap f (sym m.is)) tt) }
+spans-nothing {f = f} a same = record {
+  of =
+      λ s rest b m u. (subst (Reaches s) (sym m.stays) (reach_self s u), subst (AllInside s) (same ∙ ap f (sym m.is)) tt);
+}
 
 abbrev pub placed_spans : {A : Type 0} → (A → List Span) → Placed A → List Span
 placed_spans f p = (p.place, p.following) ∷ f p.what
@@ -147,9 +201,11 @@ spans-right R S = spans-seen (λ p. p.1) (λ a. refl) (spans-then R S)
 pub spans-left : {A B : Type 0} {R : Rule A} {S : Rule B} {f : A → List Span} → Spans R f → Spans S no_spans → Spans (R ◁ S) f
 spans-left {f = f} R S = spans-seen (λ p. p.0) (λ a. append-nil (f a.0)) (spans-then R S)
 
-pub spans-optional : {A : Type 0} {R : Rule A} {f : A → List Span} (g : Option A → List Span) → ((a : A) → f a ≡ g (Some a)) → [] ≡ g None → Spans R f → Spans (Optional R) g
+pub spans-optional : {A : Type 0} {R : Rule A} {f : A → List Span} (g : Option A → List Span) → ((a : A) → f a ≡ g (Some a))
+    → [] ≡ g None → Spans R f → Spans (Optional R) g
 spans-optional g some none R = spans-else (spans-seen Some some R) (spans-nothing None none)
 
 -- the spans of a match in a text are slices of it
-pub slices : {A : Type 0} {R : Rule A} {f : A → List Span} → Spans R f → (s rest : List ℕ) (a : A) → IsUtf8 s → R s rest a → AreSlices s (f a)
+pub slices : {A : Type 0} {R : Rule A} {f : A → List Span} → Spans R f → (s rest : List ℕ) (a : A) → IsUtf8 s → R s rest a
+    → AreSlices s (f a)
 slices {f = f} R s rest a u m = all_slices s (f a) (R.of s rest a m u).1

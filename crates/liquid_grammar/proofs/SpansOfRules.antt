@@ -1,5 +1,33 @@
 -- The spans of each rule's shapes.
-use Rattle.std.proofs.Common.{◌≡◌, ℕ, zero, suc, ◌<◌, Bool, true, not, ◌||◌, ◌==◌, List, [], ◌∷◌, ◌++◌, length, get_or, drop, IsUtf8, refl, sym, ap, ◌∙◌, subst, arith, append_assoc, length-append, eqb-true}
+use Rattle.std.proofs.Common.{
+  ◌≡◌,
+  ℕ,
+  zero,
+  suc,
+  ◌<◌,
+  Bool,
+  true,
+  not,
+  ◌||◌,
+  ◌==◌,
+  List,
+  [],
+  ◌∷◌,
+  ◌++◌,
+  length,
+  get_or,
+  drop,
+  IsUtf8,
+  refl,
+  sym,
+  ap,
+  ◌∙◌,
+  subst,
+  arith,
+  append_assoc,
+  length-append,
+  eqb-true,
+}
 use Rattle.std.proofs.lemmas.Bool.Decides.{nat_tests}
 use Rattle.std.proofs.lemmas.Str.{IsCharBoundary-before_ascii, IsUtf8-drop}
 use Rattle.std.proofs.Math.Seq.{get_or-append_seam}
@@ -8,12 +36,91 @@ use Rattle.std.specs.Char.{is_ascii_digit}
 use Rattle.liquid_grammar.specs.meaning.Bytes.{is_white, starts_name, is_word}
 use Rattle.liquid_grammar.specs.meaning.Rules.{Rule, One, Then, Repeated, ends, more, Where, Text}
 use Rattle.liquid_grammar.specs.meaning.Grammar.{White, Braces, Opener, Closer, NameByte, Identifier, Name, is_literal_word}
-use Rattle.liquid_grammar.specs.meaning.Literals.{decimal, integer, text_literal, word_literal, Word, Quoted, Digits, Whole, Fractional, Number, LiteralRule}
-use Rattle.liquid_grammar.specs.meaning.Values.{Value, Index, named_index, gather, placed_literal, placed_variable, placed_bracket, Bracketed, IndexOver, VariableOver, ValueOver, Nested, ValueRule, IndexRule, VariableRule}
-use Rattle.liquid_grammar.specs.meaning.Tokens.{positional, keyword, range, chain, symbol, arguments_of, is_double, is_single, ArgumentRule, Following, Arguments, FilterRule, ChainRule, Dots, RangeRule, SymbolRule, TokenRule, ExpressionRule, TagRule}
-use Rattle.liquid_grammar.specs.laws.Spans.{Span, spans_of_all, value_spans, index_spans, indexes_spans, argument_spans, filter_spans, chain_spans, token_spans, tag_spans}
+use Rattle.liquid_grammar.specs.meaning.Literals.{
+  decimal,
+  integer,
+  text_literal,
+  word_literal,
+  Word,
+  Quoted,
+  Digits,
+  Whole,
+  Fractional,
+  Number,
+  LiteralRule,
+}
+use Rattle.liquid_grammar.specs.meaning.Values.{
+  Value,
+  Index,
+  named_index,
+  gather,
+  placed_literal,
+  placed_variable,
+  placed_bracket,
+  Bracketed,
+  IndexOver,
+  VariableOver,
+  ValueOver,
+  Nested,
+  ValueRule,
+  IndexRule,
+  VariableRule,
+}
+use Rattle.liquid_grammar.specs.meaning.Tokens.{
+  positional,
+  keyword,
+  range,
+  chain,
+  symbol,
+  arguments_of,
+  is_double,
+  is_single,
+  ArgumentRule,
+  Following,
+  Arguments,
+  FilterRule,
+  ChainRule,
+  Dots,
+  RangeRule,
+  SymbolRule,
+  TokenRule,
+  ExpressionRule,
+  TagRule,
+}
+use Rattle.liquid_grammar.specs.laws.Spans.{
+  Span,
+  spans_of_all,
+  value_spans,
+  index_spans,
+  indexes_spans,
+  argument_spans,
+  filter_spans,
+  chain_spans,
+  token_spans,
+  tag_spans,
+}
 use Rattle.liquid_grammar.proofs.TextLemmas.{is_white_ascii}
-use Rattle.liquid_grammar.proofs.SpanLemmas.{Spans, Reaches, no_spans, after_ascii, spans-run, spans-one, spans-byte, spans-then, spans-else, spans-repeated, spans-seen, spans-where, spans-text, spans-not, spans-ahead, spans-at, spans-right, spans-left, spans-optional}
+use Rattle.liquid_grammar.proofs.SpanLemmas.{
+  Spans,
+  Reaches,
+  no_spans,
+  after_ascii,
+  spans-run,
+  spans-one,
+  spans-byte,
+  spans-then,
+  spans-else,
+  spans-repeated,
+  spans-seen,
+  spans-where,
+  spans-text,
+  spans-not,
+  spans-ahead,
+  spans-at,
+  spans-right,
+  spans-left,
+  spans-optional,
+}
 
 starts_name_low : (b : ℕ) → starts_name b ≡ true → b < 128
 starts_name_low b e = grind (arith, nat_tests)
@@ -40,12 +147,14 @@ spans-braces : (kind : ℕ) → kind < 128 → Spans (Braces kind) no_spans
 spans-braces kind low = spans-right (spans-byte 123 (omega arith)) (spans-byte kind low)
 
 spans-opener : (kind : ℕ) → kind < 128 → Spans (Opener kind) no_spans
-spans-opener kind low = spans-else (spans-right (spans-right spans-white (spans-braces kind low)) (spans-byte 45 (omega arith))) (spans-braces kind low)
+spans-opener kind low = spans-else (spans-right (spans-right spans-white (spans-braces kind low)) (spans-byte 45 (omega arith)))
+    (spans-braces kind low)
 
 spans-closer : (kind : ℕ) → kind < 128 → Spans (Closer kind) no_spans
 spans-closer kind low =
     let last = spans-byte 125 (omega arith) in
-    spans-else (spans-left (spans-right (spans-right (spans-byte 45 (omega arith)) (spans-byte kind low)) last) spans-white) (spans-right (spans-byte kind low) last)
+    spans-else (spans-left (spans-right (spans-right (spans-byte 45 (omega arith)) (spans-byte kind low)) last) spans-white)
+    (spans-right (spans-byte kind low) last)
 
 spans-name_byte : Spans NameByte no_spans
 spans-name_byte = spans-else (spans-one is_word is_word_low) (spans-left (spans-byte 45 (omega arith)) spans-ahead)
@@ -78,7 +187,8 @@ spans-quoted quote low = record { of = λ s rest a m u. (go s rest a m u, tt) }
         let close = m.match.after in
         let front = m.match.before.from.0 ∷ m.match.before.from.1 in
         let run = run_is_front (λ b. not (b == quote)) start.after in
-        let whole : s ≡ front ++ m.from.1 ∷ rest = start.before.front ∙ ap (λ x. m.match.before.from.0 ∷ x) (run ∙ ap (λ x. m.match.before.from.1 ++ x) close.front) in
+        let whole : s ≡ front ++ m.from.1 ∷ rest = start.before.front ∙ ap (λ x. m.match.before.from.0 ∷ x)
+        (run ∙ ap (λ x. m.match.before.from.1 ++ x) close.front) in
         let closes : m.from.1 < 128 = subst (λ (x : ℕ). x < 128) (sym (eqb-true m.from.1 quote close.passes)) low in
         record {
           front = front ++ m.from.1 ∷ [];
@@ -99,13 +209,15 @@ spans-fractional : Spans Fractional no_spans
 spans-fractional = spans-text (spans-then spans-whole (spans-then (spans-byte 46 (omega arith)) spans-digits))
 
 spans-number : Spans Number no_spans
-spans-number = spans-left (spans-else (spans-seen decimal (λ a. refl) spans-fractional) (spans-seen integer (λ a. refl) spans-whole)) spans-not
+spans-number = spans-left (spans-else (spans-seen decimal (λ a. refl) spans-fractional)
+    (spans-seen integer (λ a. refl) spans-whole)) spans-not
 
 pub spans-literal : Spans LiteralRule no_spans
 spans-literal =
     spans-else
     spans-word
-    (spans-else (spans-seen text_literal (λ a. refl) (spans-else (spans-quoted 39 (omega arith)) (spans-quoted 34 (omega arith)))) spans-number)
+    (spans-else (spans-seen text_literal (λ a. refl)
+    (spans-else (spans-quoted 39 (omega arith)) (spans-quoted 34 (omega arith)))) spans-number)
 
 gathered : (is : List Index) → spans_of_all index_spans is ≡ indexes_spans (gather is)
 gathered [] = refl
@@ -113,14 +225,17 @@ gathered (i ∷ is) = ap (λ x. index_spans i ++ x) (gathered is)
 
 module _ {Inner : Rule Value} (I : Spans Inner value_spans) where
   spans-bracketed : Spans (Bracketed Inner) value_spans
-  spans-bracketed = spans-left (spans-right (spans-right (spans-byte 91 (omega arith)) spans-white) I) (spans-right spans-white (spans-byte 93 (omega arith)))
+  spans-bracketed = spans-left (spans-right (spans-right (spans-byte 91 (omega arith)) spans-white) I)
+      (spans-right spans-white (spans-byte 93 (omega arith)))
 
   spans-index_over : Spans (IndexOver Inner) index_spans
-  spans-index_over = spans-else (spans-seen named_index (λ a. refl) (spans-right (spans-byte 46 (omega arith)) spans-identifier)) (spans-seen placed_bracket (λ p. refl) (spans-at spans-bracketed))
+  spans-index_over = spans-else (spans-seen named_index (λ a. refl) (spans-right (spans-byte 46 (omega arith)) spans-identifier))
+      (spans-seen placed_bracket (λ p. refl) (spans-at spans-bracketed))
 
   spans-variable_over : Spans (VariableOver Inner) value_spans
   spans-variable_over =
-      spans-seen placed_variable (λ p. ap (λ x. (p.place, p.following) ∷ x) (gathered p.what.1)) (spans-at (spans-then spans-name (spans-repeated spans-index_over)))
+      spans-seen placed_variable (λ p. ap (λ x. (p.place, p.following) ∷ x) (gathered p.what.1))
+      (spans-at (spans-then spans-name (spans-repeated spans-index_over)))
 
   spans-value_over : Spans (ValueOver Inner) value_spans
   spans-value_over = spans-else (spans-seen placed_literal (λ p. refl) (spans-at spans-literal)) spans-variable_over
@@ -142,20 +257,25 @@ spans-variable = spans-variable_over spans-value
 pub spans-argument : Spans ArgumentRule argument_spans
 spans-argument =
     spans-else
-    (spans-seen (λ p. keyword p.0 p.1) (λ a. refl) (spans-then (spans-left (spans-left (spans-left spans-identifier spans-white) (spans-byte 58 (omega arith))) spans-white) spans-value))
+    (spans-seen (λ p. keyword p.0 p.1) (λ a. refl)
+    (spans-then (spans-left (spans-left (spans-left spans-identifier spans-white)
+    (spans-byte 58 (omega arith))) spans-white) spans-value))
     (spans-seen positional (λ a. refl) spans-value)
 
-spans-following : {A : Type 0} {R : Rule A} {f : A → List Span} (separator : ℕ) → separator < 128 → Spans R f → Spans (Following separator R) f
+spans-following : {A : Type 0} {R : Rule A} {f : A → List Span} (separator : ℕ) → separator < 128 → Spans R f
+    → Spans (Following separator R) f
 spans-following separator low R = spans-right (spans-right (spans-right spans-white (spans-byte separator low)) spans-white) R
 
 spans-arguments : Spans Arguments (spans_of_all argument_spans)
 spans-arguments =
-    spans-seen (λ p. p.0 ∷ p.1) (λ a. refl) (spans-then (spans-following 58 (omega arith) spans-argument) (spans-repeated (spans-following 44 (omega arith) spans-argument)))
+    spans-seen (λ p. p.0 ∷ p.1) (λ a. refl) (spans-then (spans-following 58 (omega arith) spans-argument)
+    (spans-repeated (spans-following 44 (omega arith) spans-argument)))
 
 pub spans-filter : Spans FilterRule filter_spans
 spans-filter =
     let some = spans-optional (λ o. spans_of_all argument_spans (arguments_of o)) (λ a. refl) refl spans-arguments in
-    spans-at (spans-seen {g = λ q. spans_of_all argument_spans q.1} (λ p. (p.0, arguments_of p.1)) (λ a. refl) (spans-then spans-identifier some))
+    spans-at (spans-seen {g = λ q. spans_of_all argument_spans q.1} (λ p. (p.0, arguments_of p.1)) (λ a. refl)
+    (spans-then spans-identifier some))
 
 pub spans-chain : Spans ChainRule chain_spans
 spans-chain = spans-at (spans-then spans-value (spans-repeated (spans-following 124 (omega arith) spans-filter)))
@@ -189,10 +309,12 @@ spans-symbol = spans-else spans-double (spans-text (spans-one is_single single_l
 
 pub spans-token : Spans TokenRule token_spans
 spans-token =
-    spans-else (spans-seen range (λ p. refl) (spans-at spans-range)) (spans-else (spans-seen chain (λ c. refl) spans-chain) (spans-seen symbol (λ p. refl) (spans-at spans-symbol)))
+    spans-else (spans-seen range (λ p. refl) (spans-at spans-range))
+    (spans-else (spans-seen chain (λ c. refl) spans-chain) (spans-seen symbol (λ p. refl) (spans-at spans-symbol)))
 
 pub spans-expression : Spans ExpressionRule chain_spans
-spans-expression = spans-left (spans-left (spans-right (spans-right (spans-opener 123 (omega arith)) spans-white) spans-chain) spans-white) (spans-closer 125 (omega arith))
+spans-expression = spans-left (spans-left
+    (spans-right (spans-right (spans-opener 123 (omega arith)) spans-white) spans-chain) spans-white) (spans-closer 125 (omega arith))
 
 pub spans-tag : Spans TagRule tag_spans
 spans-tag =

@@ -5,13 +5,90 @@ use Rattle.std.specs.Char.{is_ascii_digit}
 use Rattle.liquid_grammar.specs.meaning.Bytes.{starts_name}
 use Rattle.liquid_grammar.specs.meaning.Rules.{Rule, One, Then, Repeated, Byte, Optional, ◌▷◌, ◌◁◌}
 use Rattle.liquid_grammar.specs.meaning.Grammar.{White, Identifier, Name, is_literal_word}
-use Rattle.liquid_grammar.specs.meaning.Literals.{word_literal, text_literal, integer, decimal, Word, Quoted, Digits, Whole, Fractional, Number, LiteralRule}
-use Rattle.liquid_grammar.specs.meaning.Values.{Value, named_index, placed_literal, placed_variable, placed_bracket, OpenBracket, CloseBracket, Bracketed, IndexOver, VariableOver, ValueOver, Nested, ValueRule}
-use Rattle.liquid_grammar.specs.meaning.Tokens.{positional, keyword, range, chain, symbol, arguments_of, is_double, is_single, ArgumentRule, Following, Arguments, FilterRule, ChainRule, Dots, RangeStart, RangeEnd, RangeRule, SymbolRule, TokenRule, ExpressionStart, ExpressionRule, TagStart, TagRule}
+use Rattle.liquid_grammar.specs.meaning.Literals.{
+  word_literal,
+  text_literal,
+  integer,
+  decimal,
+  Word,
+  Quoted,
+  Digits,
+  Whole,
+  Fractional,
+  Number,
+  LiteralRule,
+}
+use Rattle.liquid_grammar.specs.meaning.Values.{
+  Value,
+  named_index,
+  placed_literal,
+  placed_variable,
+  placed_bracket,
+  OpenBracket,
+  CloseBracket,
+  Bracketed,
+  IndexOver,
+  VariableOver,
+  ValueOver,
+  Nested,
+  ValueRule,
+}
+use Rattle.liquid_grammar.specs.meaning.Tokens.{
+  positional,
+  keyword,
+  range,
+  chain,
+  symbol,
+  arguments_of,
+  is_double,
+  is_single,
+  ArgumentRule,
+  Following,
+  Arguments,
+  FilterRule,
+  ChainRule,
+  Dots,
+  RangeStart,
+  RangeEnd,
+  RangeRule,
+  SymbolRule,
+  TokenRule,
+  ExpressionStart,
+  ExpressionRule,
+  TagStart,
+  TagRule,
+}
 use Rattle.liquid_grammar.specs.steps.Steps.{Reader, right, white}
 use Rattle.liquid_grammar.specs.steps.TokenSteps as read
-use Rattle.liquid_grammar.proofs.Exact.{Exact, Shrinks, exact-one, exact-byte, exact-both, exact-either, exact-seen, exact-right, exact-left, exact-only, exact-text, shrinks-one, shrinks-first, shrinks-second, shrinks-seen, shrinks-else, shrinks-text}
-use Rattle.liquid_grammar.proofs.GrammarExact.{shrinks-opener, exact-white, exact-run, exact-identifier, exact-name, exact-opener, exact-closer, exact-name_bytes}
+use Rattle.liquid_grammar.proofs.Exact.{
+  Exact,
+  Shrinks,
+  exact-one,
+  exact-byte,
+  exact-both,
+  exact-either,
+  exact-seen,
+  exact-right,
+  exact-left,
+  exact-only,
+  exact-text,
+  shrinks-one,
+  shrinks-first,
+  shrinks-second,
+  shrinks-seen,
+  shrinks-else,
+  shrinks-text,
+}
+use Rattle.liquid_grammar.proofs.GrammarExact.{
+  shrinks-opener,
+  exact-white,
+  exact-run,
+  exact-identifier,
+  exact-name,
+  exact-opener,
+  exact-closer,
+  exact-name_bytes,
+}
 use Rattle.liquid_grammar.proofs.ExactRepeated.{exact-not_ahead, exact-optional, exact-at, exact-repeated}
 
 pub exact-word : Exact read.word Word
@@ -43,11 +120,13 @@ exact-fractional = exact-text (exact-both exact-whole exact-fraction)
 
 pub exact-number : Exact read.number Number
 unfolding read.number
-exact-number = exact-left (exact-either (exact-seen decimal exact-fractional) (exact-seen integer exact-whole)) (exact-not_ahead (exact-one starts_name))
+exact-number = exact-left (exact-either (exact-seen decimal exact-fractional) (exact-seen integer exact-whole))
+    (exact-not_ahead (exact-one starts_name))
 
 pub exact-literal : Exact read.literal LiteralRule
 unfolding read.literal
-exact-literal = exact-either exact-word (exact-either (exact-seen text_literal (exact-either (exact-quoted 39) (exact-quoted 34))) exact-number)
+exact-literal = exact-either exact-word (exact-either
+    (exact-seen text_literal (exact-either (exact-quoted 39) (exact-quoted 34))) exact-number)
 
 pub shrinks-identifier : Shrinks Identifier
 shrinks-identifier = shrinks-text (shrinks-first (shrinks-one starts_name) exact-name_bytes.cuts)
@@ -70,7 +149,8 @@ pub exact-bracketed : {f : Reader Value} {R : Rule Value} → Exact f R → Exac
 exact-bracketed F = exact-left (exact-right exact-open_bracket F) exact-close_bracket
 
 pub shrinks-bracketed : {f : Reader Value} {R : Rule Value} → Exact f R → Shrinks (Bracketed R)
-shrinks-bracketed F = shrinks-seen (λ p. p.0) (shrinks-first (shrinks-seen (λ p. p.1) (shrinks-first shrinks-open_bracket F.cuts)) exact-close_bracket.cuts)
+shrinks-bracketed F = shrinks-seen (λ p. p.0)
+    (shrinks-first (shrinks-seen (λ p. p.1) (shrinks-first shrinks-open_bracket F.cuts)) exact-close_bracket.cuts)
 
 pub exact-named : Exact read.named (Byte 46 ▷ Identifier)
 unfolding read.named
@@ -95,7 +175,12 @@ exact-value_over F = exact-either (exact-seen placed_literal (exact-at exact-lit
 
 pub exact-nested : (n : ℕ) → Exact (read.value_by n) (Nested n)
 unfolding read.value_by Nested
-exact-nested zero = record { sound = λ s rest a e. absurd (none-some _ e); complete = λ s rest a m. absurd m; cuts = λ s rest a m. absurd m }
+exact-nested zero = record {
+  sound = λ s rest a e. absurd (none-some _ e);
+  complete = λ s rest a m. absurd m;
+  cuts =
+      λ s rest a m. absurd m;
+}
 exact-nested (suc n) = exact-value_over (exact-nested n)
 
 pub exact-value : Exact read.value ValueRule
@@ -112,14 +197,18 @@ exact-keyword_start = exact-left (exact-left (exact-left exact-identifier exact-
 
 pub exact-argument : Exact read.argument ArgumentRule
 unfolding read.argument
-exact-argument = exact-either (exact-seen (λ p. keyword p.0 p.1) (exact-both exact-keyword_start exact-value)) (exact-seen positional exact-value)
+exact-argument = exact-either (exact-seen (λ p. keyword p.0 p.1) (exact-both exact-keyword_start exact-value))
+    (exact-seen positional exact-value)
 
-pub exact-following : {A : Type 0} {f : Reader A} {R : Rule A} (separator : ℕ) → Exact f R → Exact (read.following separator f) (Following separator R)
+pub exact-following : {A : Type 0} {f : Reader A} {R : Rule A} (separator : ℕ) → Exact f R
+    → Exact (read.following separator f) (Following separator R)
 exact-following separator F = exact-right (exact-right (exact-right exact-white (exact-byte separator)) exact-white) F
 
 pub shrinks-following : {A : Type 0} {f : Reader A} {R : Rule A} (separator : ℕ) → Exact f R → Shrinks (Following separator R)
 shrinks-following separator F =
-    shrinks-seen (λ p. p.1) (shrinks-first (shrinks-seen (λ p. p.1) (shrinks-first (shrinks-seen (λ p. p.1) (shrinks-second exact-white.cuts (shrinks-one (λ c. c == separator)))) exact-white.cuts)) F.cuts)
+    shrinks-seen (λ p. p.1) (shrinks-first (shrinks-seen (λ p. p.1)
+    (shrinks-first (shrinks-seen (λ p. p.1) (shrinks-second exact-white.cuts
+    (shrinks-one (λ c. c == separator)))) exact-white.cuts)) F.cuts)
 
 pub exact-more_arguments : Exact (read.repeated (read.following 44 read.argument)) (Repeated (Following 44 ArgumentRule))
 exact-more_arguments = exact-repeated (exact-following 44 exact-argument) (shrinks-following 44 exact-argument)
@@ -133,7 +222,8 @@ unfolding read.filter
 exact-filter = exact-at (exact-seen (λ p. (p.0, arguments_of p.1)) (exact-both exact-identifier (exact-optional exact-arguments)))
 
 pub shrinks-filter : Shrinks FilterRule
-shrinks-filter s rest a m = shrinks-seen (λ p. (p.0, arguments_of p.1)) (shrinks-first shrinks-identifier (exact-optional exact-arguments).cuts) s rest a.what m.match
+shrinks-filter s rest a m = shrinks-seen (λ p. (p.0, arguments_of p.1))
+    (shrinks-first shrinks-identifier (exact-optional exact-arguments).cuts) s rest a.what m.match
 
 pub exact-filters : Exact (read.repeated (read.following 124 read.filter)) (Repeated (Following 124 FilterRule))
 exact-filters = exact-repeated (exact-following 124 exact-filter) (shrinks-following 124 exact-filter)
@@ -167,7 +257,8 @@ exact-symbol = exact-either (exact-text (exact-only is_double (exact-both exact-
 
 pub exact-token : Exact read.token TokenRule
 unfolding read.token
-exact-token = exact-either (exact-seen range (exact-at exact-range)) (exact-either (exact-seen chain exact-chain) (exact-seen symbol (exact-at exact-symbol)))
+exact-token = exact-either (exact-seen range (exact-at exact-range))
+    (exact-either (exact-seen chain exact-chain) (exact-seen symbol (exact-at exact-symbol)))
 
 exact-expression_start : Exact read.expression_start ExpressionStart
 unfolding read.expression_start
@@ -189,11 +280,14 @@ shrinks-whole = shrinks-text (shrinks-second exact-sign.cuts shrinks-digits)
 
 shrinks-number : Shrinks Number
 shrinks-number =
-    shrinks-seen (λ p. p.0) (shrinks-first (shrinks-else (shrinks-seen decimal (shrinks-text (shrinks-first shrinks-whole (exact-both (exact-byte 46) exact-digits).cuts))) (shrinks-seen integer shrinks-whole)) (exact-not_ahead (exact-one starts_name)).cuts)
+    shrinks-seen (λ p. p.0) (shrinks-first (shrinks-else
+    (shrinks-seen decimal (shrinks-text (shrinks-first shrinks-whole (exact-both (exact-byte 46) exact-digits).cuts)))
+    (shrinks-seen integer shrinks-whole)) (exact-not_ahead (exact-one starts_name)).cuts)
 
 shrinks-quoted : (quote : ℕ) → Shrinks (Quoted quote)
 shrinks-quoted quote =
-    shrinks-seen (λ p. p.0) (shrinks-second (exact-right (exact-byte quote) (exact-run (λ b. not (b == quote)))).cuts (shrinks-one (λ c. c == quote)))
+    shrinks-seen (λ p. p.0) (shrinks-second (exact-right (exact-byte quote) (exact-run (λ b. not (b == quote)))).cuts
+    (shrinks-one (λ c. c == quote)))
 
 pub shrinks-literal : Shrinks LiteralRule
 shrinks-literal =
@@ -214,11 +308,14 @@ shrinks-chain s rest a m = shrinks-first shrinks-value exact-filters.cuts s rest
 
 shrinks-range : Shrinks RangeRule
 shrinks-range =
-    shrinks-seen (λ p. p.0) (shrinks-first (shrinks-seen (λ p. p.1) (shrinks-first (shrinks-seen (λ p. p.1) (shrinks-first (shrinks-one (λ c. c == 40)) exact-white.cuts)) (exact-both (exact-left exact-value exact-dots) exact-value).cuts)) exact-range_end.cuts)
+    shrinks-seen (λ p. p.0) (shrinks-first (shrinks-seen (λ p. p.1)
+    (shrinks-first (shrinks-seen (λ p. p.1) (shrinks-first (shrinks-one (λ c. c == 40)) exact-white.cuts))
+    (exact-both (exact-left exact-value exact-dots) exact-value).cuts)) exact-range_end.cuts)
 
 shrinks-symbol : Shrinks SymbolRule
 shrinks-symbol =
-    shrinks-else (shrinks-text (λ s rest a m. shrinks-first (shrinks-one (λ b. true)) exact-any.cuts s rest a m.match)) (shrinks-text (shrinks-one is_single))
+    shrinks-else (shrinks-text (λ s rest a m. shrinks-first (shrinks-one (λ b. true)) exact-any.cuts s rest a m.match))
+    (shrinks-text (shrinks-one is_single))
 
 pub shrinks-token : Shrinks TokenRule
 shrinks-token =
@@ -240,11 +337,16 @@ exact-tag = exact-left (exact-left (exact-both exact-tag_start (exact-at exact-t
 
 pub shrinks-full_expression : Shrinks ExpressionRule
 shrinks-full_expression =
-    shrinks-seen (λ p. p.0) (shrinks-first (shrinks-seen (λ p. p.0) (shrinks-first (shrinks-seen (λ p. p.1) (shrinks-first (shrinks-seen (λ p. p.1) (shrinks-first (shrinks-opener 123) exact-white.cuts)) exact-chain.cuts)) exact-white.cuts)) (exact-closer 125).cuts)
+    shrinks-seen (λ p. p.0) (shrinks-first (shrinks-seen (λ p. p.0)
+    (shrinks-first (shrinks-seen (λ p. p.1) (shrinks-first
+    (shrinks-seen (λ p. p.1) (shrinks-first (shrinks-opener 123) exact-white.cuts)) exact-chain.cuts)) exact-white.cuts))
+    (exact-closer 125).cuts)
 
 shrinks-tag_start : Shrinks TagStart
-shrinks-tag_start = shrinks-seen (λ p. p.1) (shrinks-first (shrinks-seen (λ p. p.1) (shrinks-first (shrinks-opener 37) exact-white.cuts)) exact-identifier.cuts)
+shrinks-tag_start = shrinks-seen (λ p. p.1)
+    (shrinks-first (shrinks-seen (λ p. p.1) (shrinks-first (shrinks-opener 37) exact-white.cuts)) exact-identifier.cuts)
 
 pub shrinks-tag : Shrinks TagRule
 shrinks-tag =
-    shrinks-seen (λ p. p.0) (shrinks-first (shrinks-seen (λ p. p.0) (shrinks-first (shrinks-first shrinks-tag_start (exact-at exact-tokens).cuts) exact-white.cuts)) (exact-closer 37).cuts)
+    shrinks-seen (λ p. p.0) (shrinks-first (shrinks-seen (λ p. p.0)
+    (shrinks-first (shrinks-first shrinks-tag_start (exact-at exact-tokens).cuts) exact-white.cuts)) (exact-closer 37).cuts)

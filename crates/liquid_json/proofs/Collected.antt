@@ -1,5 +1,31 @@
 -- The entries of a map that is built from entries in order.
-use Rattle.std.proofs.Common.{◌≡◌, ℕ, List, [], ◌∷◌, String, Global, BTreeMap, Option, Some, None, Bool, true, false, Ordering, Less, Equal, Greater, map, string_bytes, string_cmp, refl, sym, ap, ◌∙◌}
+use Rattle.std.proofs.Common.{
+  ◌≡◌,
+  ℕ,
+  List,
+  [],
+  ◌∷◌,
+  String,
+  Global,
+  BTreeMap,
+  Option,
+  Some,
+  None,
+  Bool,
+  true,
+  false,
+  Ordering,
+  Less,
+  Equal,
+  Greater,
+  map,
+  string_bytes,
+  string_cmp,
+  refl,
+  sym,
+  ap,
+  ◌∙◌,
+}
 use Rattle.std.proofs.lemmas.Cmp.{eq_by_cmp_equiv}
 use Rattle.std.proofs.lemmas.Map.{lookup-none}
 use Rattle.std.proofs.lemmas.Map.Entries.{lookup_head, lookup_tail, none_past_head, none_below_head}

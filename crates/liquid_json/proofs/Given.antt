@@ -1,5 +1,28 @@
 -- A walk over the items of an array, or the members of an object, some of which are values already.
-use Rattle.std.proofs.Common.{◌≡◌, ℕ, List, [], ◌∷◌, ◌++◌, Result, Ok, Err, Option, Some, None, String, Global, map, length, string_bytes, refl, sym, ap, ◌∙◌, arith}
+use Rattle.std.proofs.Common.{
+  ◌≡◌,
+  ℕ,
+  List,
+  [],
+  ◌∷◌,
+  ◌++◌,
+  Result,
+  Ok,
+  Err,
+  Option,
+  Some,
+  None,
+  String,
+  Global,
+  map,
+  length,
+  string_bytes,
+  refl,
+  sym,
+  ap,
+  ◌∙◌,
+  arith,
+}
 use Rattle.std.specs.Map.{keys_of}
 use Rattle.std.specs.Prelude.{IfSome}
 use Rattle.std.proofs.lemmas.List.{map-append}

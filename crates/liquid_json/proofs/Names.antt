@@ -1,5 +1,23 @@
 -- Entries with the same names have them in the same order.
-use Rattle.std.proofs.Common.{◌≡◌, ℕ, List, [], ◌∷◌, String, Global, Less, map, string_bytes, string_cmp, nat_cmp, refl, sym, ap, ap₂, subst}
+use Rattle.std.proofs.Common.{
+  ◌≡◌,
+  ℕ,
+  List,
+  [],
+  ◌∷◌,
+  String,
+  Global,
+  Less,
+  map,
+  string_bytes,
+  string_cmp,
+  nat_cmp,
+  refl,
+  sym,
+  ap,
+  ap₂,
+  subst,
+}
 use Rattle.std.specs.Cmp.Lexicographic.{slice_cmp}
 use Rattle.std.specs.List.{AllByRecursion}
 use Rattle.std.specs.List.Sorted.{IsStrictlySortedBy}

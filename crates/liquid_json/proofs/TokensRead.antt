@@ -1,5 +1,42 @@
 -- The tokens of a text, some of which are values already.
-use Rattle.std.proofs.Common.{◌≡◌, ℕ, ℤ, pos, negsuc, ◌^◌, SFits, w64, lt-ltb, List, [], ◌∷◌, ◌++◌, Option, Some, None, Result, Ok, Err, Ordering, Less, Equal, Greater, nat_cmp, map, option_and_then, String, BTreeMap, Global, string_bytes, refl, sym, ap, ◌∙◌, arith, rules}
+use Rattle.std.proofs.Common.{
+  ◌≡◌,
+  ℕ,
+  ℤ,
+  pos,
+  negsuc,
+  ◌^◌,
+  SFits,
+  w64,
+  lt-ltb,
+  List,
+  [],
+  ◌∷◌,
+  ◌++◌,
+  Option,
+  Some,
+  None,
+  Result,
+  Ok,
+  Err,
+  Ordering,
+  Less,
+  Equal,
+  Greater,
+  nat_cmp,
+  map,
+  option_and_then,
+  String,
+  BTreeMap,
+  Global,
+  string_bytes,
+  refl,
+  sym,
+  ap,
+  ◌∙◌,
+  arith,
+  rules,
+}
 use Rattle.std.proofs.lemmas.List.{map-append}
 use Rattle.std.specs.Cmp.Lexicographic.{slice_cmp}
 use Rattle.std.specs.Ordering.{match_ordering}

@@ -22,7 +22,18 @@ use Rattle.liquid_pages.specs.declared.options.PageFrame.{PageFrame}
 use Rattle.liquid_pages.specs.declared.options.PageOptions.{PageOptions}
 use Rattle.liquid_pages.specs.declared.options.Room.{Room}
 use Rattle.liquid_pages.specs.meaning.Limited.{limited, room_of}
-use Rattle.liquid_pages.specs.meaning.Pages.{IsFoundIn, PageAnswer, RendersAnswer, Settings, built_over, first_register, first_view, nodes_action, page_action, runtime_names}
+use Rattle.liquid_pages.specs.meaning.Pages.{
+  IsFoundIn,
+  PageAnswer,
+  RendersAnswer,
+  Settings,
+  built_over,
+  first_register,
+  first_view,
+  nodes_action,
+  page_action,
+  runtime_names,
+}
 
 module _ {Reg F T P L B Q : Type 0} (s : Settings Reg F T P B Q) (l : Lang F T L B) where
   -- a source has at most one store

@@ -20,7 +20,16 @@ use Rattle.liquid_pages.specs.declared.prepared.ReadTexts.TheVariants as read
 use Rattle.liquid_pages.specs.meaning.Faults.{Fault, fault_told, no_text, text_read, unparsed}
 use Rattle.liquid_pages.specs.meaning.Pages.{PageAnswer, Settings}
 use Rattle.liquid_pages.specs.meaning.Prepared.{IsReadAs, IsReadOver}
-use Rattle.liquid_pages.specs.meaning.Shown.{NameAndText, NodesComeTo, Page, ReadComesTo, TextComesTo, partials_over, partials_read, stopped}
+use Rattle.liquid_pages.specs.meaning.Shown.{
+  NameAndText,
+  NodesComeTo,
+  Page,
+  ReadComesTo,
+  TextComesTo,
+  partials_over,
+  partials_read,
+  stopped,
+}
 use Rattle.liquid_pages.proofs.ShownSteps.{step_on, text_nodes, text_refused}
 
 -- bytes that are read as a text are that text

@@ -1,5 +1,27 @@
 -- All elements of a block, one after another.
-use Rattle.std.proofs.Common.{◌≡◌, ℕ, Bool, true, false, List, [], ◌∷◌, ◌++◌, Option, Some, None, Result, Ok, Err, refl, sym, ap, ◌∙◌, subst, append_assoc}
+use Rattle.std.proofs.Common.{
+  ◌≡◌,
+  ℕ,
+  Bool,
+  true,
+  false,
+  List,
+  [],
+  ◌∷◌,
+  ◌++◌,
+  Option,
+  Some,
+  None,
+  Result,
+  Ok,
+  Err,
+  refl,
+  sym,
+  ap,
+  ◌∙◌,
+  subst,
+  append_assoc,
+}
 use Rattle.std.specs.Prelude.{IfSome}
 use Rattle.std.proofs.lemmas.List.{append-nil}
 use Rattle.liquid_error.specs.meaning.Refusal.{Refusal}
@@ -7,7 +29,18 @@ use Rattle.liquid_grammar.specs.meaning.Cover.{Element, Cover}
 use Rattle.liquid_grammar.proofs.CoverLemmas.{cover_of}
 use Rattle.liquid_plugins.specs.meaning.Nodes.{NodeShape}
 use Rattle.liquid_parser.specs.declared.cursor.block.TagBlock.{TagBlock}
-use Rattle.liquid_parser.specs.meaning.BlockReading.{next_read, in_front, AllRead, refused, ended, one_more, FindsAll, IsAll, ParsedNext, Passes}
+use Rattle.liquid_parser.specs.meaning.BlockReading.{
+  next_read,
+  in_front,
+  AllRead,
+  refused,
+  ended,
+  one_more,
+  FindsAll,
+  IsAll,
+  ParsedNext,
+  Passes,
+}
 use Rattle.liquid_parser.specs.meaning.Lang.{Lang}
 
 in_front_none : {N : Type 0} (a : Result (List N × List Element) Refusal) → in_front [] a ≡ a

@@ -1,5 +1,29 @@
 -- The classification of a tag, from the steps of the parser.
-use Rattle.std.proofs.Common.{◌≡◌, ◌+◌, ◌<◌, arith, ℕ, true, false, List, [], ◌∷◌, ◌++◌, length, Option, Some, None, Result, Ok, Err, refl, sym, ap, ◌∙◌, subst}
+use Rattle.std.proofs.Common.{
+  ◌≡◌,
+  ◌+◌,
+  ◌<◌,
+  arith,
+  ℕ,
+  true,
+  false,
+  List,
+  [],
+  ◌∷◌,
+  ◌++◌,
+  length,
+  Option,
+  Some,
+  None,
+  Result,
+  Ok,
+  Err,
+  refl,
+  sym,
+  ap,
+  ◌∙◌,
+  subst,
+}
 use Rattle.std.specs.Prelude.{IfSome, bytes_eq, map, reverse, nat_lt, codes}
 use Rattle.std.proofs.lemmas.List.{map_push, reverse-append, length-reverse, length-map}
 use Rattle.std.specs.List.{list_any}
@@ -10,7 +34,21 @@ use Rattle.liquid_grammar.specs.meaning.Tokens as token
 use Rattle.liquid_plugins.specs.meaning.Nodes.{NodeShape}
 use Rattle.liquid_parser.specs.meaning.Handed.{Tokens}
 use Rattle.liquid_parser.specs.meaning.Lang.{Filters, Lang, Block}
-use Rattle.liquid_parser.specs.meaning.Reading.{Open, among, begun, block_begun, closed, entered, name_place, outer_read, parted, refused_at, tag_given, tag_read, unknown_tag}
+use Rattle.liquid_parser.specs.meaning.Reading.{
+  Open,
+  among,
+  begun,
+  block_begun,
+  closed,
+  entered,
+  name_place,
+  outer_read,
+  parted,
+  refused_at,
+  tag_given,
+  tag_read,
+  unknown_tag,
+}
 
 module _ {F T P B : Type 0} (l : Lang F T P B) (source : List ℕ) (outside : ℕ) (t : token.Tag) (b : Open F T P B)
     (blocks : List (Open F T P B)) (nodes : List (NodeShape F T B)) where

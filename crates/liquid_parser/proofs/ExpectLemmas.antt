@@ -10,7 +10,18 @@ use Rattle.liquid_grammar.specs.declared.parts.TokenParts.{TokenParts}
 use Rattle.liquid_grammar.specs.declared.parts.TokenParts.TheVariants as parts
 use Rattle.liquid_grammar.specs.meaning.Faults.{token_fault}
 use Rattle.liquid_grammar.specs.meaning.KindMeanings.{token_kind_of}
-use Rattle.liquid_grammar.specs.meaning.Kinds.{Kind, range_kind, symbol_kind, filtered_kind, literal_kind, variable_kind, identifier_kind, value_kind, chain_kind, identifier_of}
+use Rattle.liquid_grammar.specs.meaning.Kinds.{
+  Kind,
+  range_kind,
+  symbol_kind,
+  filtered_kind,
+  literal_kind,
+  variable_kind,
+  identifier_kind,
+  value_kind,
+  chain_kind,
+  identifier_of,
+}
 use Rattle.liquid_grammar.specs.meaning.Literals.{Literal}
 use Rattle.liquid_grammar.specs.meaning.Parts.{HasParts, IsChainToken}
 use Rattle.liquid_grammar.specs.meaning.Tokens as token
@@ -21,7 +32,19 @@ use Rattle.liquid_grammar.specs.meaning.Meanings.{literal_of}
 use Rattle.liquid_scalar.specs.meaning.Scalar.{integer, boolean, text, date, date_time}
 use Rattle.liquid_value.specs.meaning.Tree.{Tree}
 use Rattle.liquid_plugins.specs.meaning.Expression.{ExpressionShape, literal, variable, no_indexes, index, as_literal}
-use Rattle.liquid_parser.specs.meaning.Handed.{Token, chain, call_of, handed_token, expression_meant, literal_tree, value_of, as_identifier, expect_value, expect_identifier, expect_literal}
+use Rattle.liquid_parser.specs.meaning.Handed.{
+  Token,
+  chain,
+  call_of,
+  handed_token,
+  expression_meant,
+  literal_tree,
+  value_of,
+  as_identifier,
+  expect_value,
+  expect_identifier,
+  expect_literal,
+}
 use Rattle.liquid_parser.proofs.Indexes.{first_none}
 
 pub is_value_kind : Kind → Bool

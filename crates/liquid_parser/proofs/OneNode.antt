@@ -1,5 +1,27 @@
 -- An element gives one node.
-use Rattle.std.proofs.Common.{◌≡◌, ℕ, Bool, true, false, List, [], ◌∷◌, ◌++◌, length, Option, Some, None, option_map, Result, Ok, Err, refl, sym, ap, ◌∙◌}
+use Rattle.std.proofs.Common.{
+  ◌≡◌,
+  ℕ,
+  Bool,
+  true,
+  false,
+  List,
+  [],
+  ◌∷◌,
+  ◌++◌,
+  length,
+  Option,
+  Some,
+  None,
+  option_map,
+  Result,
+  Ok,
+  Err,
+  refl,
+  sym,
+  ap,
+  ◌∙◌,
+}
 use Rattle.std.specs.Prelude.{⊤, ◌+◌, unwrap_or, if◌then◌else◌, nat_lt, bytes_eq, codes}
 use Rattle.std.specs.List.{list_any}
 use Rattle.std.specs.Option.{option_or}
@@ -11,7 +33,37 @@ use Rattle.liquid_plugins.specs.meaning.Nodes.{NodeShape}
 use Rattle.liquid_parser.specs.meaning.ElementReading.{read_closed, tag_node_read}
 use Rattle.liquid_parser.specs.meaning.Handed.{handed, expect_nothing, place_in}
 use Rattle.liquid_parser.specs.meaning.Lang.{Lang, Body, parts, escaped}
-use Rattle.liquid_parser.specs.meaning.Reading.{Open, State, among, inside, step, checked, expression_read, node_added, tag_given, begun, block_begun, parted, closed, finished, escape_read, level_after, as_end, as_divider, as_tag, as_block, outer_read, tag_read, unknown_tag, entered, block_with, placed_at, name_place, refused_at, block_limit}
+use Rattle.liquid_parser.specs.meaning.Reading.{
+  Open,
+  State,
+  among,
+  inside,
+  step,
+  checked,
+  expression_read,
+  node_added,
+  tag_given,
+  begun,
+  block_begun,
+  parted,
+  closed,
+  finished,
+  escape_read,
+  level_after,
+  as_end,
+  as_divider,
+  as_tag,
+  as_block,
+  outer_read,
+  tag_read,
+  unknown_tag,
+  entered,
+  block_with,
+  placed_at,
+  name_place,
+  refused_at,
+  block_limit,
+}
 
 abbrev pub IsOne : {N : Type 0} → List N → Type 0
 IsOne {N} ns = (n : N) × (ns ≡ n ∷ [])

@@ -9,7 +9,16 @@ use Rattle.liquid_grammar.proofs.CoverLemmas.{joined_cover}
 use Rattle.liquid_plugins.specs.meaning.Nodes.{NodeShape}
 use Rattle.liquid_parser.specs.declared.cursor.block.TagBlock.{TagBlock}
 use Rattle.liquid_parser.specs.declared.cursor.element.BlockElement.{BlockElement}
-use Rattle.liquid_parser.specs.meaning.BlockReading.{handed_out, following_first, element_or_end, next_read, HandsOut, Parsed, ParsedNext, Passes}
+use Rattle.liquid_parser.specs.meaning.BlockReading.{
+  handed_out,
+  following_first,
+  element_or_end,
+  next_read,
+  HandsOut,
+  Parsed,
+  ParsedNext,
+  Passes,
+}
 use Rattle.liquid_parser.specs.meaning.ElementReading.{read_closed, node_read}
 use Rattle.liquid_parser.specs.meaning.Elements.{StandsFor}
 use Rattle.liquid_parser.specs.meaning.Lang.{Lang}

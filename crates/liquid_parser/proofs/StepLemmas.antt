@@ -1,5 +1,30 @@
 -- The steps of the parser, over any block.
-use Rattle.std.proofs.Common.{◌≡◌, inl, inr, ℕ, ◌+◌, List, [], ◌∷◌, ◌++◌, length, map, Option, Some, None, option_map, Result, Ok, Err, refl, sym, ap, ◌∙◌, subst, Vec}
+use Rattle.std.proofs.Common.{
+  ◌≡◌,
+  inl,
+  inr,
+  ℕ,
+  ◌+◌,
+  List,
+  [],
+  ◌∷◌,
+  ◌++◌,
+  length,
+  map,
+  Option,
+  Some,
+  None,
+  option_map,
+  Result,
+  Ok,
+  Err,
+  refl,
+  sym,
+  ap,
+  ◌∙◌,
+  subst,
+  Vec,
+}
 use Rattle.std.specs.Prelude.{IfSome}
 use Rattle.std.specs.declared.alloc.Global.{Global}
 use Rattle.std.proofs.lemmas.List.{length-map, length-append, map_push}
@@ -7,7 +32,20 @@ use Rattle.liquid_error.specs.declared.place.Place.{Place}
 use Rattle.liquid_error.specs.meaning.Refusal.{Refusal, or_placed, ok_then}
 use Rattle.liquid_grammar.specs.meaning.Tokens as token
 use Rattle.liquid_plugins.specs.declared.tree.Node as code
-use Rattle.liquid_plugins.specs.declared.tree.Node.TheVariants.{Text, Brief, Name, Chain, Tag, Block, rolls-Text, rolls-Brief, rolls-Name, rolls-Chain, rolls-Tag, rolls-Block}
+use Rattle.liquid_plugins.specs.declared.tree.Node.TheVariants.{
+  Text,
+  Brief,
+  Name,
+  Chain,
+  Tag,
+  Block,
+  rolls-Text,
+  rolls-Brief,
+  rolls-Name,
+  rolls-Chain,
+  rolls-Tag,
+  rolls-Block,
+}
 use Rattle.liquid_plugins.specs.declared.expression.FilterChain.{FilterChain}
 use Rattle.liquid_plugins.specs.meaning.ExpressionOf.{chain_of}
 use Rattle.std.specs.Prelude.{string_bytes, String}

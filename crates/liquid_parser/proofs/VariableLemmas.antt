@@ -1,5 +1,26 @@
 -- Variables that are whole texts.
-use Rattle.std.proofs.Common.{◌≡◌, ℕ, List, [], ◌∷◌, Option, Some, None, Ok, refl, sym, ap, ◌∙◌, subst, true, false, ◌==◌, length, arith, eqb-true}
+use Rattle.std.proofs.Common.{
+  ◌≡◌,
+  ℕ,
+  List,
+  [],
+  ◌∷◌,
+  Option,
+  Some,
+  None,
+  Ok,
+  refl,
+  sym,
+  ap,
+  ◌∙◌,
+  subst,
+  true,
+  false,
+  ◌==◌,
+  length,
+  arith,
+  eqb-true,
+}
 use Rattle.liquid_error.specs.meaning.Refusal.{ok_then}
 use Rattle.liquid_grammar.specs.meaning.Faults.{Fault, fault_within, value_fault, indexes_fault}
 use Rattle.liquid_grammar.specs.meaning.Grammar.{Identifier}

@@ -10,7 +10,22 @@ use Rattle.liquid_error.specs.meaning.Told.{told, Gives}
 use Rattle.liquid_runtime.specs.meaning.Maps.{NameMap}
 use Rattle.liquid_parser.specs.meaning.Lang.{Lang}
 use Rattle.liquid_template.specs.meaning.Partials.{Found, partial_in, tree_in}
-use Rattle.liquid_partials.specs.laws.Requests.{Request, got, tried, is_answered, name_asked, Serves, serves, FewReadings, kept_none, kept_more, SameIfBoth, answer_told, Alike, StoresAgree}
+use Rattle.liquid_partials.specs.laws.Requests.{
+  Request,
+  got,
+  tried,
+  is_answered,
+  name_asked,
+  Serves,
+  serves,
+  FewReadings,
+  kept_none,
+  kept_more,
+  SameIfBoth,
+  answer_told,
+  Alike,
+  StoresAgree,
+}
 use Rattle.liquid_partials.proofs.LazyLemmas.{reads_few}
 use Rattle.liquid_partials.proofs.StoreLemmas.{one_store}
 

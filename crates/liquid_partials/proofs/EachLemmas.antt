@@ -1,9 +1,45 @@
 -- Maps whose values are made from those of another one, and the texts that a map of the program holds.
-use Rattle.std.proofs.Common.{◌≡◌, ℕ, Bool, true, false, cond, ◌&&◌, List, [], ◌∷◌, Option, Some, None, is_some, map, refl, ap, sym, ◌∙◌, subst}
+use Rattle.std.proofs.Common.{
+  ◌≡◌,
+  ℕ,
+  Bool,
+  true,
+  false,
+  cond,
+  ◌&&◌,
+  List,
+  [],
+  ◌∷◌,
+  Option,
+  Some,
+  None,
+  is_some,
+  map,
+  refl,
+  ap,
+  sym,
+  ◌∙◌,
+  subst,
+}
 use Rattle.std.specs.Prelude.{T, String, string_bytes, option_map, Result}
 use Rattle.std.specs.BTreeMap.{BTreeMap, IsEmpty, IsUnchanged, IsOrdered, IsClone, get_by_text, Updates}
 use Rattle.std.specs.Cmp.Lexicographic.{slice_cmp, nat_list_cmp_total}
-use Rattle.std.specs.FinMap.{get, get-entries, get-empty, insert, get-insert, empty, entries, entries_sorted, keys, from_entries, from_sorted, get-from_entries, get-from_sorted, entries-from_sorted}
+use Rattle.std.specs.FinMap.{
+  get,
+  get-entries,
+  get-empty,
+  insert,
+  get-insert,
+  empty,
+  entries,
+  entries_sorted,
+  keys,
+  from_entries,
+  from_sorted,
+  get-from_entries,
+  get-from_sorted,
+  entries-from_sorted,
+}
 use Rattle.std.specs.FinMap.Entries.{find, is_sorted, below_all}
 use Rattle.std.specs.Map.{keys_of}
 use Rattle.std.specs.Ordering.{nat_cmp, is_lt, eq_by_cmp}

@@ -1,10 +1,12 @@
 -- What a store that keeps its results finds, has kept and parses.
-use Rattle.std.proofs.Common.{◌≡◌, ℕ, suc, ◌+◌, ◌≤◌, Bool, true, false, cond, List, [], ◌∷◌, ◌++◌, length, Option, Some, None, is_some, Result, map, refl, sym, ap, ◌∙◌, subst, arith, append_assoc}
+use Rattle.std.proofs.Common.{◌≡◌, ℕ, suc, ◌+◌, ◌≤◌, Bool, true, false, cond, List, [], ◌∷◌, ◌++◌, length, Option, Some, None, is_some}
+use Rattle.std.proofs.Common.{Result, map, refl, sym, ap, ◌∙◌, subst, arith, append_assoc}
 use Rattle.std.specs.Prelude.{String, option_map, not, ◌&&◌, ◌||◌, Ok, Err, OnOk, OnErr}
 use Rattle.std.specs.BTreeMap.{BTreeMap, IsEmpty}
 use Rattle.std.specs.Cmp.{tied_itself}
 use Rattle.std.specs.Cmp.Lexicographic.{slice_cmp, nat_list_cmp_total}
-use Rattle.std.specs.FinMap.{contains_key, contains_key-keys, empty, entries, get, get-empty, get-insert, get_tied, insert, keys, len, len-empty, len-entries, len-insert}
+use Rattle.std.specs.FinMap.{contains_key, contains_key-keys, empty, entries, get, get-empty, get-insert, get_tied, insert, keys, len}
+use Rattle.std.specs.FinMap.{len-empty, len-entries, len-insert}
 use Rattle.std.specs.List.{list_any}
 use Rattle.std.specs.Option.{option_or}
 use Rattle.std.specs.Ordering.{nat_cmp, is_eq, eq_by_cmp}

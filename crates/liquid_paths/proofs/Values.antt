@@ -1,5 +1,27 @@
 -- A list of values and the items that it means, and a map's entries and its members.
-use Rattle.std.proofs.Common.{Bor, ◌≡◌, ℕ, ℤ, zero, suc, ◌<◌, ◌≤◌, List, [], ◌∷◌, length, get_or, Option, None, Some, refl, ap, arith, String, Global}
+use Rattle.std.proofs.Common.{
+  Bor,
+  ◌≡◌,
+  ℕ,
+  ℤ,
+  zero,
+  suc,
+  ◌<◌,
+  ◌≤◌,
+  List,
+  [],
+  ◌∷◌,
+  length,
+  get_or,
+  Option,
+  None,
+  Some,
+  refl,
+  ap,
+  arith,
+  String,
+  Global,
+}
 use Rattle.std.specs.Prelude.{string_bytes, option_map, option_and_then, cond}
 use Rattle.std.specs.BTreeMap.{is_at}
 use Rattle.std.specs.Cmp.Lexicographic.{slice_cmp}

@@ -13,7 +13,15 @@ use Rattle.liquid_paths.specs.meaning.Walk.{Path}
 use Rattle.liquid_paths.proofs.Agreement.{ok_then-agrees, ok_or-agrees}
 use Rattle.liquid_runtime.proofs.Agreement.{get_agrees, lenient_get_agrees}
 use Rattle.liquid_plugins.specs.meaning.Expression.{ExpressionShape, literal, variable, Indexes, no_indexes, index}
-use Rattle.liquid_plugins.specs.meaning.Evaluation.{evaluate, path_of, try_evaluate, try_path_of, expected_scalar, named_path, try_named_path}
+use Rattle.liquid_plugins.specs.meaning.Evaluation.{
+  evaluate,
+  path_of,
+  try_evaluate,
+  try_path_of,
+  expected_scalar,
+  named_path,
+  try_named_path,
+}
 
 ok_then-map : (s : Scal) (r : Result Path Refusal) (o : Option Path) → result_ok r ≡ o
     → result_ok (ok_then r (λ path. Ok (s ∷ path))) ≡ option_map (λ path. s ∷ path) o

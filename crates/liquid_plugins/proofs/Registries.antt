@@ -4,7 +4,20 @@ use Rattle.std.specs.Prelude.{T, String, string_bytes}
 use Rattle.std.specs.BTreeMap.{BTreeMap, IsEmpty, IsUnchanged, IsOrdered, IsClone, get_by_text, Updates}
 use Rattle.std.specs.Cmp.{eq_by_cmp_equiv}
 use Rattle.std.specs.Cmp.Lexicographic.{slice_cmp, nat_list_cmp_total}
-use Rattle.std.specs.FinMap.{get, insert, get-insert, empty, entries, keys, values, from_entries, from_sorted, get-from_entries, get-from_sorted, entries-from_sorted}
+use Rattle.std.specs.FinMap.{
+  get,
+  insert,
+  get-insert,
+  empty,
+  entries,
+  keys,
+  values,
+  from_entries,
+  from_sorted,
+  get-from_entries,
+  get-from_sorted,
+  entries-from_sorted,
+}
 use Rattle.std.specs.FinMap.Entries.{find, is_sorted, below_all}
 use Rattle.std.specs.List.{AllByRecursion, AllZip}
 use Rattle.std.specs.List.Sorted.{IsStrictlySortedBy}

@@ -1,5 +1,24 @@
 -- From what each step of a command returns to what the program says about it.
-use Rattle.std.proofs.Common.{◌≡◌, ℕ, List, Option, Result, Ok, Err, String, Global, BTreeMap, string_bytes, refl, ap, subst, inl, inr, rules, ◌∙◌}
+use Rattle.std.proofs.Common.{
+  ◌≡◌,
+  ℕ,
+  List,
+  Option,
+  Result,
+  Ok,
+  Err,
+  String,
+  Global,
+  BTreeMap,
+  string_bytes,
+  refl,
+  ap,
+  subst,
+  inl,
+  inr,
+  rules,
+  ◌∙◌,
+}
 use Rattle.liquid_error.specs.declared.error.Error.{Error, the_lemmas, roll-Error}
 use Rattle.liquid_error.specs.declared.error.Error.TheOpen.{Error-F}
 use Rattle.liquid_value.specs.declared.value.Value.{Value}
@@ -13,7 +32,16 @@ use Rattle.liquid_json.specs.meaning.Given.{object_read}
 use Rattle.liquid_program.specs.meaning.Program.{Renders, Fails, Finishes, Executes, status_of}
 use Rattle.liquid_program.specs.meaning.Status.{exit_status, fault_status}
 use Rattle.liquid_program.specs.steps.Steps.{Stops, Brings}
-use Rattle.liquid_program.proofs.GatheredLemmas.{Files, Folders, text_follows, globals_follow, partials_follow, text_anyhow, globals_anyhow, partials_anyhow}
+use Rattle.liquid_program.proofs.GatheredLemmas.{
+  Files,
+  Folders,
+  text_follows,
+  globals_follow,
+  partials_follow,
+  text_anyhow,
+  globals_anyhow,
+  partials_anyhow,
+}
 use Rattle.liquid_program.specs.declared.command.Options.{Options}
 use Rattle.liquid_program.proofs.MemoryLemmas.{nothing_rendered}
 

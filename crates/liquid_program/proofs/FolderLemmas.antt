@@ -1,5 +1,28 @@
 -- The files of a folder, one after another.
-use Rattle.std.proofs.Common.{Bor, option_map, ◌≡◌, ◌∙◌, ℕ, List, [], ◌∷◌, ◌++◌, Option, Some, Ok, Err, String, Global, BTreeMap, string_bytes, sym, ap, subst, inr, append_assoc}
+use Rattle.std.proofs.Common.{
+  Bor,
+  option_map,
+  ◌≡◌,
+  ◌∙◌,
+  ℕ,
+  List,
+  [],
+  ◌∷◌,
+  ◌++◌,
+  Option,
+  Some,
+  Ok,
+  Err,
+  String,
+  Global,
+  BTreeMap,
+  string_bytes,
+  sym,
+  ap,
+  subst,
+  inr,
+  append_assoc,
+}
 use Rattle.std.proofs.lemmas.List.{append-nil}
 use Rattle.std.specs.Option.{unwrap_or}
 use Rattle.std.specs.Prelude.{is_some}

@@ -10,7 +10,17 @@ use Rattle.liquid_value.specs.meaning.Tree.{Members}
 use Rattle.liquid_runtime.specs.meaning.Maps.{Names}
 use Rattle.liquid_partials.specs.meaning.Sources.{Texts}
 use Rattle.liquid_program.specs.meaning.Files.{Reads}
-use Rattle.liquid_program.specs.meaning.Gathered.{WithText, WithGlobals, WithNames, WithFiles, WithFolder, WithPartials, Gathers, in_order, path_in}
+use Rattle.liquid_program.specs.meaning.Gathered.{
+  WithText,
+  WithGlobals,
+  WithNames,
+  WithFiles,
+  WithFolder,
+  WithPartials,
+  Gathers,
+  in_order,
+  path_in,
+}
 use Rattle.liquid_json.specs.meaning.Given.{object_read}
 use Rattle.liquid_pages.specs.meaning.Globals.{global_names}
 

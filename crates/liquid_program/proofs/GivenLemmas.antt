@@ -1,10 +1,40 @@
 -- What a fault of reading globals says of their JSON.
-use Rattle.std.proofs.Common.{◌≡◌, ◌∙◌, ◌↔◌, List, ℕ, Bool, true, false, Option, None, Some, Result, Ok, Err, option_map, IfSome, IsNone, IsTrue, sym, ap, refl, true≢false}
+use Rattle.std.proofs.Common.{
+  ◌≡◌,
+  ◌∙◌,
+  ◌↔◌,
+  List,
+  ℕ,
+  Bool,
+  true,
+  false,
+  Option,
+  None,
+  Some,
+  Result,
+  Ok,
+  Err,
+  option_map,
+  IfSome,
+  IsNone,
+  IsTrue,
+  sym,
+  ap,
+  refl,
+  true≢false,
+}
 use Rattle.std.specs.Prelude.{is_some}
 use Rattle.liquid_error.specs.meaning.Refusal.{Refusal}
 use Rattle.liquid_value.specs.meaning.Tree.{Members}
 use Rattle.liquid_runtime.specs.meaning.Maps.{Names}
-use Rattle.liquid_pages.specs.meaning.Faults.{Fault as PageFault, bad_json as page_bad_json, no_globals as page_no_globals, no_text, unparsed, refused}
+use Rattle.liquid_pages.specs.meaning.Faults.{
+  Fault as PageFault,
+  bad_json as page_bad_json,
+  no_globals as page_no_globals,
+  no_text,
+  unparsed,
+  refused,
+}
 use Rattle.liquid_pages.specs.meaning.Globals.{names_given}
 use Rattle.liquid_program.specs.meaning.Requests.{Trouble, bad_json, no_globals, object_trouble}
 

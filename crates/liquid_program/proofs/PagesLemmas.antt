@@ -1,5 +1,31 @@
 -- From what each step of several pages returns to what the program says about them.
-use Rattle.std.proofs.Common.{◌≡◌, ◌≢◌, ◌∙◌, ℕ, ◌⊎◌, List, [], ◌∷◌, Option, None, Some, Result, Ok, Err, String, Global, BTreeMap, string_bytes, refl, sym, ap, subst, inl, inr, arith}
+use Rattle.std.proofs.Common.{
+  ◌≡◌,
+  ◌≢◌,
+  ◌∙◌,
+  ℕ,
+  ◌⊎◌,
+  List,
+  [],
+  ◌∷◌,
+  Option,
+  None,
+  Some,
+  Result,
+  Ok,
+  Err,
+  String,
+  Global,
+  BTreeMap,
+  string_bytes,
+  refl,
+  sym,
+  ap,
+  subst,
+  inl,
+  inr,
+  arith,
+}
 use Rattle.std.specs.Prelude.{⊤}
 use Rattle.liquid_error.specs.meaning.Refusal.{Refusal}
 use Rattle.liquid_value.specs.declared.value.Value.{Value}
@@ -11,16 +37,43 @@ use Rattle.liquid_json.specs.meaning.Given.{object_read}
 use Rattle.liquid_pages.specs.meaning.Globals.{global_names}
 use Rattle.liquid_program.specs.declared.command.Options.{Options}
 use Rattle.liquid_program.specs.declared.fault.Fault.{Fault}
-use Rattle.liquid_program.specs.declared.fault.Fault.TheVariants.{Refused, Explained, Usage, Unreadable, UnreadableInFolder, Unwritable, BadJson, NoGlobals}
+use Rattle.liquid_program.specs.declared.fault.Fault.TheVariants.{
+  Refused,
+  Explained,
+  Usage,
+  Unreadable,
+  UnreadableInFolder,
+  Unwritable,
+  BadJson,
+  NoGlobals,
+}
 use Rattle.liquid_program.specs.meaning.Command.{option_words}
 use Rattle.liquid_program.specs.meaning.Files.{Replaces, Same}
 use Rattle.liquid_program.specs.meaning.Gathered.{WithText, WithGlobals, WithPartials}
 use Rattle.liquid_program.specs.meaning.PagesCommand.{AskedPages}
 use Rattle.liquid_program.specs.meaning.Program.{ExecutesOne, Fails, Finishes, Printed, Renders, status_of}
 use Rattle.liquid_program.specs.meaning.Status.{all_status, fault_status}
-use Rattle.liquid_program.specs.meaning.Written.{Lands, WritesEach, WritesFile, WritesNothing, WritesPages, file_in, first_fault, pages_folder}
+use Rattle.liquid_program.specs.meaning.Written.{
+  Lands,
+  WritesEach,
+  WritesFile,
+  WritesNothing,
+  WritesPages,
+  file_in,
+  first_fault,
+  pages_folder,
+}
 use Rattle.liquid_program.specs.steps.Steps.{Stops, Brings}
-use Rattle.liquid_program.proofs.GatheredLemmas.{Files, Folders, text_follows, globals_follow, partials_follow, text_anyhow, globals_anyhow, partials_anyhow}
+use Rattle.liquid_program.proofs.GatheredLemmas.{
+  Files,
+  Folders,
+  text_follows,
+  globals_follow,
+  partials_follow,
+  text_anyhow,
+  globals_anyhow,
+  partials_anyhow,
+}
 use Rattle.liquid_program.proofs.ExecutedLemmas.{finishes_memory, stopped}
 
 -- no fault has status 0

@@ -1,12 +1,51 @@
 -- The requests of files and folders, one after another, up to the first trouble.
-use Rattle.std.proofs.Common.{◌≡◌, ◌∙◌, ℕ, List, [], ◌∷◌, ◌++◌, Option, None, Some, Result, Ok, Err, map, refl, sym, ap, subst, inl, inr, append_assoc, append-nil, true≢false}
+use Rattle.std.proofs.Common.{
+  ◌≡◌,
+  ◌∙◌,
+  ℕ,
+  List,
+  [],
+  ◌∷◌,
+  ◌++◌,
+  Option,
+  None,
+  Some,
+  Result,
+  Ok,
+  Err,
+  map,
+  refl,
+  sym,
+  ap,
+  subst,
+  inl,
+  inr,
+  append_assoc,
+  append-nil,
+  true≢false,
+}
 use Rattle.std.specs.Prelude.{is_some}
 use Rattle.std.specs.Option.{option_map_or}
 use Rattle.liquid_program.specs.declared.fault.Fault.{Fault}
 use Rattle.liquid_program.specs.meaning.Files.{Request, Requests, also, reading}
 use Rattle.liquid_program.specs.meaning.Command.{Asked, command_of}
 use Rattle.liquid_program.specs.meaning.PagesCommand.{AskedPages, pages_of}
-use Rattle.liquid_program.specs.meaning.Requests.{Begins, Follows, FollowsTo, FollowsWords, IsMemory, Step, Trouble, WhereKnown, command_steps, first_trouble, pages_steps, template_step, trouble_in, up_to_trouble}
+use Rattle.liquid_program.specs.meaning.Requests.{
+  Begins,
+  Follows,
+  FollowsTo,
+  FollowsWords,
+  IsMemory,
+  Step,
+  Trouble,
+  WhereKnown,
+  command_steps,
+  first_trouble,
+  pages_steps,
+  template_step,
+  trouble_in,
+  up_to_trouble,
+}
 use Rattle.liquid_program.proofs.GatheredLemmas.{Files, Folders}
 use Rattle.liquid_program.specs.meaning.Status.{exit_status}
 use Rattle.liquid_program.specs.steps.Steps.{Collects, CollectsAll, CollectsSome, ReportsSome, Requested}

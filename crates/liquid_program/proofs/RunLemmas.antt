@@ -10,7 +10,14 @@ use Rattle.liquid_pages.specs.declared.options.PageOptions.{PageOptions}
 use Rattle.liquid_pages.specs.meaning.Pages.{Renders as RendersPage}
 use Rattle.liquid_program.specs.declared.command.Options.{Options}
 use Rattle.liquid_program.specs.meaning.Program.{Printed, Renders, RendersIn, page_options}
-use Rattle.liquid_program.specs.meaning.ProgramLanguage.{PlainLang, StandardLang, plain_language, plain_setting, standard_language, standard_setting}
+use Rattle.liquid_program.specs.meaning.ProgramLanguage.{
+  PlainLang,
+  StandardLang,
+  plain_language,
+  plain_setting,
+  standard_language,
+  standard_setting,
+}
 use Rattle.liquid_program.specs.meaning.Status.{settled}
 
 -- texts in memory are their own texts

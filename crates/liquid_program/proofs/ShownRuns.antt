@@ -1,5 +1,30 @@
 -- From what a run writes to a sink over memory to what its output shows.
-use Rattle.std.proofs.Common.{◌≡◌, ℕ, Bool, true, false, ◌⊎◌, inl, inr, List, [], ◌∷◌, ◌++◌, Option, None, Some, Result, Ok, Err, refl, sym, ap, subst, ◌∙◌, append_assoc}
+use Rattle.std.proofs.Common.{
+  ◌≡◌,
+  ℕ,
+  Bool,
+  true,
+  false,
+  ◌⊎◌,
+  inl,
+  inr,
+  List,
+  [],
+  ◌∷◌,
+  ◌++◌,
+  Option,
+  None,
+  Some,
+  Result,
+  Ok,
+  Err,
+  refl,
+  sym,
+  ap,
+  subst,
+  ◌∙◌,
+  append_assoc,
+}
 use Rattle.std.specs.Prelude.{MatchOption}
 use Rattle.std.proofs.lemmas.List.{append-nil}
 use Rattle.liquid_error.specs.declared.error.Error.{Error}
@@ -26,7 +51,18 @@ use Rattle.liquid_program.specs.meaning.Written.{Placed, Prints, WritesOthers}
 use Rattle.std.specs.Option.{unwrap_or}
 use Rattle.liquid_program.specs.meaning.Command.{Asked, command_of}
 use Rattle.liquid_program.specs.meaning.Status.{settled}
-use Rattle.liquid_program.specs.meaning.InMemory.{IsBeginning, IsWhole, ShowsAnswer, ShowsNothing, ShowsPage, ShowsIn, ShowsText, ShowsCommand, ShowsPlaced, Shows}
+use Rattle.liquid_program.specs.meaning.InMemory.{
+  IsBeginning,
+  IsWhole,
+  ShowsAnswer,
+  ShowsNothing,
+  ShowsPage,
+  ShowsIn,
+  ShowsText,
+  ShowsCommand,
+  ShowsPlaced,
+  Shows,
+}
 use Rattle.liquid_program.specs.meaning.Files.{known_in, listed_in}
 use Rattle.liquid_program.specs.declared.command.Options.{Options}
 use Rattle.liquid_program.proofs.GatheredLemmas.{gathers_follow}

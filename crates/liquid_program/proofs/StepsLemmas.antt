@@ -1,5 +1,7 @@
 -- What each step of a command requests and reports.
-use Rattle.std.proofs.Common.{Bor, ◌≡◌, ◌∙◌, ℕ, List, [], ◌∷◌, ◌++◌, Bool, true, false, Option, None, Some, Result, Ok, Err, String, Global, BTreeMap, string_bytes, map, option_map, refl, sym, ap, subst, inl, inr, append-nil, append_assoc, true≢false, arith}
+use Rattle.std.proofs.Common.{Bor, ◌≡◌, ◌∙◌, ℕ, List, [], ◌∷◌, ◌++◌, Bool, true, false, Option, None, Some, Result, Ok, Err, String}
+use Rattle.std.proofs.Common.{Global, BTreeMap, string_bytes, map, option_map, refl, sym, ap, subst, inl, inr, append-nil, append_assoc}
+use Rattle.std.proofs.Common.{true≢false, arith}
 use Rattle.std.proofs.lemmas.Str.{IsUtf8-from_is_utf8, is_utf8-from_IsUtf8}
 use Rattle.std.specs.Prelude.{is_some, if◌then◌else◌}
 use Rattle.std.specs.Option.{option_map_or, unwrap_or}
@@ -8,15 +10,21 @@ use Rattle.std.specs.FinMap.{empty, keys}
 use Rattle.liquid_plugins.specs.meaning.Registry.{by_name}
 use Rattle.liquid_json.specs.meaning.Given.{object_read}
 use Rattle.liquid_program.specs.declared.fault.Fault.{Fault}
-use Rattle.liquid_program.specs.declared.fault.Fault.TheVariants.{Refused, Explained, Usage, Unreadable, UnreadableInFolder, Unwritable, BadJson, NoGlobals}
+use Rattle.liquid_program.specs.declared.fault.Fault.TheVariants.{Refused, Explained, Usage, Unreadable, UnreadableInFolder, Unwritable}
+use Rattle.liquid_program.specs.declared.fault.Fault.TheVariants.{BadJson, NoGlobals}
 use Rattle.liquid_program.specs.meaning.Command.{option_words}
 use Rattle.liquid_program.specs.meaning.Files.{Request, Requests, also, listing, reading}
 use Rattle.liquid_program.specs.meaning.Gathered.{WithText, WithNames, in_order, names_into, path_in}
 use Rattle.liquid_program.specs.meaning.PagesCommand.{AskedPages}
-use Rattle.liquid_program.specs.meaning.Requests.{Follows, IsMemory, OutOfMemory, Step, Trouble, command_steps, file_steps, folder_steps, globals_at, globals_trouble, object_trouble, pages_steps, partials_steps, reported, template_step, text_at, text_trouble, trouble_in, unreadable, up_to_trouble}
+use Rattle.liquid_program.specs.meaning.Requests.{Follows, IsMemory, OutOfMemory, Step, Trouble, command_steps, file_steps, folder_steps}
+use Rattle.liquid_program.specs.meaning.Requests.{globals_at, globals_trouble, object_trouble, pages_steps, partials_steps, reported}
+use Rattle.liquid_program.specs.meaning.Requests.{template_step, text_at, text_trouble, trouble_in, unreadable, up_to_trouble}
 use Rattle.liquid_program.specs.meaning.Status.{fault_status}
-use Rattle.liquid_program.specs.steps.Steps.{Brings, Collects, CollectsAll, CollectsSome, Reports, ReportsAny, ReportsSome, ReportsTrouble, Requested, Stops}
-use Rattle.liquid_program.proofs.RequestsLemmas.{FollowsFault, all_then, also_nothing, collects_then, collects_stop, follows_done, follows_stop, maybe_stops, none_begun, one_clear, one_stops, some_then, templates_collect}
+use Rattle.liquid_program.specs.steps.Steps.{Brings, Collects, CollectsAll, CollectsSome, Reports, ReportsAny, ReportsSome}
+use Rattle.liquid_program.specs.steps.Steps.{ReportsTrouble, Requested, Stops}
+use Rattle.liquid_program.proofs.RequestsLemmas.{FollowsFault, all_then, also_nothing, collects_then, collects_stop, follows_done}
+use Rattle.liquid_program.proofs.RequestsLemmas.{follows_stop, maybe_stops, none_begun, one_clear, one_stops, some_then}
+use Rattle.liquid_program.proofs.RequestsLemmas.{templates_collect}
 
 -- files that are known
 abbrev pub FilesAt : Type 0

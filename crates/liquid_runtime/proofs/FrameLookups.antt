@@ -17,7 +17,15 @@ use Rattle.liquid_runtime.specs.meaning.NamesSeen.{lookup, names_seen}
 use Rattle.liquid_runtime.specs.meaning.Frames.{begin_stack, begin_sandboxed}
 use Rattle.liquid_runtime.specs.steps.FrameViews.{core_with, indexed_view, assigned_view, sandboxed_with}
 use Rattle.liquid_runtime.specs.declared.registers.Registers.{Registers}
-use Rattle.liquid_runtime.proofs.FrameLaws.{lookup_stack, lookup_global, lookup_sandboxed, lookup_isolated, seal_stack, seal_global, seal_sandboxed}
+use Rattle.liquid_runtime.proofs.FrameLaws.{
+  lookup_stack,
+  lookup_global,
+  lookup_sandboxed,
+  lookup_isolated,
+  seal_stack,
+  seal_global,
+  seal_sandboxed,
+}
 use Rattle.liquid_runtime.proofs.Objects.{changed_objects}
 
 abbrev pub no_names : Names

@@ -3,7 +3,20 @@ use Rattle.std.proofs.Common.{◌≡◌, ℕ, Bool, true, false, cond, List, [],
 use Rattle.std.specs.Option.{option_or}
 use Rattle.std.specs.Ordering.{nat_cmp, eq_by_cmp}
 use Rattle.std.specs.Cmp.Lexicographic.{slice_cmp, nat_list_cmp_total}
-use Rattle.std.specs.FinMap.{IsAntisymmetric, nat_cmp-IsAntisymmetric, slice_cmp-IsAntisymmetric, entries, get, insert, empty, get-entries, get-empty, get-insert, get-from_entries, same_map}
+use Rattle.std.specs.FinMap.{
+  IsAntisymmetric,
+  nat_cmp-IsAntisymmetric,
+  slice_cmp-IsAntisymmetric,
+  entries,
+  get,
+  insert,
+  empty,
+  get-entries,
+  get-empty,
+  get-insert,
+  get-from_entries,
+  same_map,
+}
 use Rattle.std.specs.FinMap.Entries.{find}
 use Rattle.liquid_runtime.specs.meaning.Maps.{NameMap, over}
 

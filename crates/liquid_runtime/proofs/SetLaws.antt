@@ -14,7 +14,18 @@ use Rattle.liquid_runtime.proofs.MapLaws.{get-over, names_apart}
 use Rattle.liquid_runtime.specs.meaning.View.{View, Floor, unsealed, sealed}
 use Rattle.liquid_runtime.specs.meaning.NamesSeen.{lookup, shown_globals, upper_names, floor_names, names_of_floor, names_seen}
 use Rattle.liquid_runtime.specs.meaning.Sets.{put_global, put_index}
-use Rattle.liquid_runtime.specs.laws.Laws.{SetGlobalKeepsOthers, SetIndexKeepsOthers, RootsAreSeen, StackNamesFirst, GlobalFrameKeepsNames, GlobalsAreSeen, IsolatedFrameShowsItsNames, IsolatedFrameShowsAssigned, IsolatedEndsBoth, IsolatedKeepsOutside}
+use Rattle.liquid_runtime.specs.laws.Laws.{
+  SetGlobalKeepsOthers,
+  SetIndexKeepsOthers,
+  RootsAreSeen,
+  StackNamesFirst,
+  GlobalFrameKeepsNames,
+  GlobalsAreSeen,
+  IsolatedFrameShowsItsNames,
+  IsolatedFrameShowsAssigned,
+  IsolatedEndsBoth,
+  IsolatedKeepsOutside,
+}
 use Rattle.liquid_runtime.specs.meaning.Frames.{begin_index, begin_stack, begin_sandboxed, core_view}
 use Rattle.liquid_runtime.proofs.Agreement.{get_agrees, lenient_get_agrees}
 use Rattle.liquid_runtime.proofs.FrameLaws.{lookup_stack, lookup_global, lookup_sandboxed, lookup_isolated}

@@ -2,7 +2,20 @@
 use Rattle.std.proofs.Common.{◌≡◌, List, [], ◌∷◌, map, refl, sym, ap, ◌∙◌, subst}
 use Rattle.liquid_runtime.specs.meaning.View.{View}
 use Rattle.liquid_runtime.specs.meaning.Frames.{Restore, ending}
-use Rattle.liquid_scopes.specs.meaning.Histories.{Call, push, pop, set_global, set_index, try_get, get, get_index, Answer, Makes, Made, left_by}
+use Rattle.liquid_scopes.specs.meaning.Histories.{
+  Call,
+  push,
+  pop,
+  set_global,
+  set_index,
+  try_get,
+  get,
+  get_index,
+  Answer,
+  Makes,
+  Made,
+  left_by,
+}
 
 tail_of : {X : Type 0} → List X → List X
 tail_of [] = []

@@ -1,10 +1,47 @@
 -- What pushing and popping a frame does to the places of names.
-use Rattle.std.proofs.Common.{◌≡◌, ℕ, zero, suc, ◌<◌, ◌≤◌, List, [], ◌∷◌, ◌++◌, length, map, get_or, Option, None, Some, Bool, true, false, cond, refl, sym, ap, ◌∙◌, arith}
+use Rattle.std.proofs.Common.{
+  ◌≡◌,
+  ℕ,
+  zero,
+  suc,
+  ◌<◌,
+  ◌≤◌,
+  List,
+  [],
+  ◌∷◌,
+  ◌++◌,
+  length,
+  map,
+  get_or,
+  Option,
+  None,
+  Some,
+  Bool,
+  true,
+  false,
+  cond,
+  refl,
+  sym,
+  ap,
+  ◌∙◌,
+  arith,
+}
 use Rattle.std.proofs.lemmas.Bool.Decides.{nat_tests}
 use Rattle.std.specs.Prelude.{is_some, is_none, nat_eq, ◌&&◌, ◌||◌, not}
 use Rattle.std.specs.Option.{option_or}
 use Rattle.liquid_value.specs.meaning.Tree.{Tree}
-use Rattle.liquid_scopes.specs.steps.Layers.{Layer, none_layer, stack_layer, global_layer, sandboxed_layer, isolated_layer, is_global, assigned, assigning, GlobalAt}
+use Rattle.liquid_scopes.specs.steps.Layers.{
+  Layer,
+  none_layer,
+  stack_layer,
+  global_layer,
+  sandboxed_layer,
+  isolated_layer,
+  is_global,
+  assigned,
+  assigning,
+  GlobalAt,
+}
 use Rattle.liquid_scopes.specs.steps.NamePlaces.{is_at}
 use Rattle.liquid_scopes.specs.steps.Standing.{own, own_at, has_at, listed_at}
 use Rattle.liquid_scopes.proofs.Unlisted.{absent}

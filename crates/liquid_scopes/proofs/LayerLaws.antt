@@ -9,13 +9,17 @@ use Rattle.liquid_value.specs.meaning.Tree.{Tree}
 use Rattle.liquid_runtime.specs.meaning.Maps.{Names}
 use Rattle.liquid_runtime.specs.meaning.View.{View}
 use Rattle.liquid_runtime.specs.meaning.NamesSeen.{lookup, comes_from_seal}
-use Rattle.liquid_runtime.specs.meaning.Frames.{Restore, scope_base, restored_by, FrameShape, no_frame, stack_frame, sandboxed_frame, isolated_frame, global_frame, beginning, ending}
+use Rattle.liquid_runtime.specs.meaning.Frames.{Restore, scope_base, restored_by, FrameShape, no_frame, stack_frame, sandboxed_frame}
+use Rattle.liquid_runtime.specs.meaning.Frames.{isolated_frame, global_frame, beginning, ending}
 use Rattle.liquid_runtime.specs.meaning.OpenFrames.{opened, EndsFirst}
 use Rattle.liquid_runtime.specs.meaning.Sets.{put_global, put_index}
 use Rattle.liquid_runtime.specs.meaning.Calls.{registers_of, with_registers}
 use Rattle.liquid_runtime.specs.declared.registers.Registers.{Registers}
-use Rattle.liquid_scopes.specs.steps.Layers.{Layer, none_layer, stack_layer, global_layer, sandboxed_layer, isolated_layer, layer_view, layer_restores, shown_over, restoring, layer_found, layer_seals, layer_name, is_global, assigned, assigning, Plain, GlobalAt, LastGlobal}
-use Rattle.liquid_runtime.proofs.FrameLaws.{lookup_stack, lookup_global, lookup_sandboxed, lookup_isolated, seal_stack, seal_global, seal_sandboxed, seal_isolated}
+use Rattle.liquid_scopes.specs.steps.Layers.{Layer, none_layer, stack_layer, global_layer, sandboxed_layer, isolated_layer, layer_view}
+use Rattle.liquid_scopes.specs.steps.Layers.{layer_restores, shown_over, restoring, layer_found, layer_seals, layer_name, is_global}
+use Rattle.liquid_scopes.specs.steps.Layers.{assigned, assigning, Plain, GlobalAt, LastGlobal}
+use Rattle.liquid_runtime.proofs.FrameLaws.{lookup_stack, lookup_global, lookup_sandboxed, lookup_isolated, seal_stack, seal_global}
+use Rattle.liquid_runtime.proofs.FrameLaws.{seal_sandboxed, seal_isolated}
 
 pub map_append : {X Y : Type 0} (f : X → Y) (xs ys : List X) → map f (xs ++ ys) ≡ map f xs ++ map f ys
 map_append f [] ys = refl

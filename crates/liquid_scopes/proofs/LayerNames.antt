@@ -13,7 +13,16 @@ use Rattle.liquid_runtime.specs.meaning.NamesSeen.{names_seen}
 use Rattle.liquid_runtime.proofs.FrameLaws.{lookup_sandboxed, lookup_isolated}
 use Rattle.liquid_runtime.proofs.FrameLookups.{roots_stack, roots_global}
 use Rattle.liquid_runtime.proofs.MapLaws.{get-over}
-use Rattle.liquid_scopes.specs.steps.Layers.{Layer, none_layer, stack_layer, global_layer, sandboxed_layer, isolated_layer, layer_view, LayerNames}
+use Rattle.liquid_scopes.specs.steps.Layers.{
+  Layer,
+  none_layer,
+  stack_layer,
+  global_layer,
+  sandboxed_layer,
+  isolated_layer,
+  layer_view,
+  LayerNames,
+}
 
 some_either : (a b : Option Tree) → (is_some a || is_some b) ≡ is_some (option_or a b)
 some_either None b = refl

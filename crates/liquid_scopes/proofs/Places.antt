@@ -1,5 +1,30 @@
 -- The places of the layers that pass a test.
-use Rattle.std.proofs.Common.{◌≡◌, ℕ, suc, ◌+◌, ◌-◌, ◌<◌, List, [], ◌∷◌, ◌++◌, length, map, Option, None, Some, Bool, true, false, cond, refl, sym, ap, ◌∙◌, arith}
+use Rattle.std.proofs.Common.{
+  ◌≡◌,
+  ℕ,
+  suc,
+  ◌+◌,
+  ◌-◌,
+  ◌<◌,
+  List,
+  [],
+  ◌∷◌,
+  ◌++◌,
+  length,
+  map,
+  Option,
+  None,
+  Some,
+  Bool,
+  true,
+  false,
+  cond,
+  refl,
+  sym,
+  ap,
+  ◌∙◌,
+  arith,
+}
 use Rattle.std.proofs.Math.ListN.{set}
 use Rattle.std.proofs.lemmas.Option.{slice_get-get_or}
 use Rattle.std.specs.Prelude.{option_map}
@@ -8,7 +33,19 @@ use Rattle.std.specs.Option.{option_or}
 use Rattle.std.specs.FinMap.{insert}
 use Rattle.liquid_value.specs.meaning.Tree.{Tree}
 use Rattle.liquid_runtime.specs.meaning.Maps.{Names}
-use Rattle.liquid_scopes.specs.steps.Layers.{Layer, none_layer, stack_layer, global_layer, sandboxed_layer, isolated_layer, is_global, assigned, assigning, GlobalAt, LastGlobal}
+use Rattle.liquid_scopes.specs.steps.Layers.{
+  Layer,
+  none_layer,
+  stack_layer,
+  global_layer,
+  sandboxed_layer,
+  isolated_layer,
+  is_global,
+  assigned,
+  assigning,
+  GlobalAt,
+  LastGlobal,
+}
 use Rattle.liquid_scopes.specs.steps.Standing.{last_place, places_where, is_sandboxed}
 use Rattle.liquid_scopes.proofs.LayerLaws.{map_append, map_length, set_put}
 

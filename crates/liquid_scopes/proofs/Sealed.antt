@@ -1,6 +1,32 @@
 -- Whether a name is the own name of a sandboxed frame: its last place, the last sandboxed frame and the base are
 -- enough.
-use Rattle.std.proofs.Common.{◌≡◌, ℕ, zero, suc, ◌<◌, ◌≤◌, List, [], ◌∷◌, length, map, get_or, Option, None, Some, Bool, true, false, cond, refl, sym, ap, ◌∙◌, arith, subst}
+use Rattle.std.proofs.Common.{
+  ◌≡◌,
+  ℕ,
+  zero,
+  suc,
+  ◌<◌,
+  ◌≤◌,
+  List,
+  [],
+  ◌∷◌,
+  length,
+  map,
+  get_or,
+  Option,
+  None,
+  Some,
+  Bool,
+  true,
+  false,
+  cond,
+  refl,
+  sym,
+  ap,
+  ◌∙◌,
+  arith,
+  subst,
+}
 use Rattle.std.proofs.lemmas.Bool.Decides.{nat_tests}
 use Rattle.std.proofs.lemmas.Option.{same_Some}
 use Rattle.std.specs.Prelude.{is_some, is_none, nat_lt, ◌&&◌, ◌||◌, not, option_map}
@@ -9,7 +35,17 @@ use Rattle.std.specs.FinMap.{get}
 use Rattle.liquid_value.specs.meaning.Tree.{Tree}
 use Rattle.liquid_runtime.specs.meaning.View.{View}
 use Rattle.liquid_runtime.specs.meaning.NamesSeen.{comes_from_seal}
-use Rattle.liquid_scopes.specs.steps.Layers.{Layer, none_layer, stack_layer, global_layer, sandboxed_layer, isolated_layer, layer_seals, layer_view, shown_over}
+use Rattle.liquid_scopes.specs.steps.Layers.{
+  Layer,
+  none_layer,
+  stack_layer,
+  global_layer,
+  sandboxed_layer,
+  isolated_layer,
+  layer_seals,
+  layer_view,
+  shown_over,
+}
 use Rattle.liquid_scopes.specs.steps.NamePlaces.{TopOf, is_under}
 use Rattle.liquid_scopes.specs.steps.Standing.{own, has_at, listed_at, seen_over, sealed_by, seals_own, seals_at, is_sandboxed, last_seal}
 use Rattle.liquid_scopes.proofs.LayerLaws.{seal_layer}

@@ -1,5 +1,29 @@
 -- The last place of a name, the last sandboxed frame and the base are enough.
-use Rattle.std.proofs.Common.{◌≡◌, ℕ, zero, suc, ◌<◌, ◌≤◌, List, [], ◌∷◌, ◌++◌, length, Option, None, Some, Bool, true, false, cond, refl, sym, ap, ◌∙◌, arith}
+use Rattle.std.proofs.Common.{
+  ◌≡◌,
+  ℕ,
+  zero,
+  suc,
+  ◌<◌,
+  ◌≤◌,
+  List,
+  [],
+  ◌∷◌,
+  ◌++◌,
+  length,
+  Option,
+  None,
+  Some,
+  Bool,
+  true,
+  false,
+  cond,
+  refl,
+  sym,
+  ap,
+  ◌∙◌,
+  arith,
+}
 use Rattle.std.proofs.lemmas.Bool.Decides.{nat_tests}
 use Rattle.std.specs.Prelude.{is_some, nat_lt, nat_eq, ◌&&◌, ◌||◌, option_map}
 use Rattle.std.specs.Option.{option_or}
@@ -7,7 +31,17 @@ use Rattle.std.specs.FinMap.{get}
 use Rattle.liquid_value.specs.meaning.Tree.{Tree}
 use Rattle.liquid_runtime.specs.meaning.View.{View}
 use Rattle.liquid_runtime.specs.meaning.NamesSeen.{lookup}
-use Rattle.liquid_scopes.specs.steps.Layers.{Layer, none_layer, stack_layer, global_layer, sandboxed_layer, isolated_layer, layer_found, layer_view, shown_over}
+use Rattle.liquid_scopes.specs.steps.Layers.{
+  Layer,
+  none_layer,
+  stack_layer,
+  global_layer,
+  sandboxed_layer,
+  isolated_layer,
+  layer_found,
+  layer_view,
+  shown_over,
+}
 use Rattle.liquid_scopes.specs.steps.Standing.{two_looks, own, own_at, has_at, own_at_top, is_sandboxed, last_seal, found_over}
 use Rattle.liquid_scopes.specs.steps.NamePlaces.{TopOf}
 use Rattle.liquid_scopes.proofs.LayerLaws.{lookup_link}

@@ -18,6 +18,17 @@ pub fn language<F: ParseFilter>(
     ensures registered { IfOk result (λ l. (l.filters ≡ filters) × (l.tags ≡ the_tags) × (l.blocks ≡ the_blocks)) }
     ensures means { IfOk result (λ l. meaning_of F.makes l ≡ tags_and_blocks (registry_of F.makes filters)) }
 {
+    Ok(Language {
+        filters,
+        tags: tags(alloc)?,
+        blocks: blocks(alloc)?,
+    })
+}
+
+/// Returns the tags, each under its name.
+fn tags(alloc: Global) -> Result<PluginRegistry<StdTags>, AllocError>
+    ensures { IfOk result (λ tags. tags ≡ the_tags) }
+{
     let mut tags = PluginRegistry::new(alloc);
     tags.register("assign", StdTags::Library(Tags::Assign))?;
     tags.register("increment", StdTags::Library(Tags::Increment))?;
@@ -28,6 +39,13 @@ pub fn language<F: ParseFilter>(
     tags.register("decrement", StdTags::Decrement)?;
     tags.register("echo", StdTags::Echo)?;
     tags.register("cycle", StdTags::Cycle)?;
+    Ok(tags)
+}
+
+/// Returns the blocks, each under its name.
+fn blocks(alloc: Global) -> Result<PluginRegistry<StdBlocks>, AllocError>
+    ensures { IfOk result (λ blocks. blocks ≡ the_blocks) }
+{
     let mut blocks = PluginRegistry::new(alloc);
     blocks.register("if", StdBlocks::If)?;
     blocks.register("unless", StdBlocks::Unless)?;
@@ -38,9 +56,5 @@ pub fn language<F: ParseFilter>(
     blocks.register("ifchanged", StdBlocks::Ifchanged)?;
     blocks.register("comment", StdBlocks::Comment)?;
     blocks.register("raw", StdBlocks::Raw)?;
-    Ok(Language {
-        filters,
-        tags,
-        blocks,
-    })
+    Ok(blocks)
 }

@@ -1,5 +1,26 @@
 -- The turns of a loop are the bodies of its items.
-use Rattle.std.proofs.Common.{◌≡◌, ℕ, suc, ◌+◌, List, [], ◌∷◌, length, Bool, true, false, cond, Option, None, Some, Ok, refl, ap, ◌∙◌, add-one}
+use Rattle.std.proofs.Common.{
+  ◌≡◌,
+  ℕ,
+  suc,
+  ◌+◌,
+  List,
+  [],
+  ◌∷◌,
+  length,
+  Bool,
+  true,
+  false,
+  cond,
+  Option,
+  None,
+  Some,
+  Ok,
+  refl,
+  ap,
+  ◌∙◌,
+  add-one,
+}
 use Rattle.liquid_error.specs.meaning.Refusal.{Refusal, ok_then}
 use Rattle.liquid_value.specs.meaning.Tree.{Tree}
 use Rattle.liquid_runtime.specs.declared.registers.Interrupt.{Interrupt}

@@ -1,5 +1,35 @@
 -- The names of a frame after both of them have been written over.
-use Rattle.std.proofs.Common.{◌≡◌, ◌≢◌, ◌-◌, ℕ, Bool, true, false, cond, List, [], ◌∷◌, Some, None, Ordering, Less, Equal, Greater, length, map, refl, sym, ap, ◌∙◌, String, Global, string_bytes, string_cmp, true≢false, arith}
+use Rattle.std.proofs.Common.{
+  ◌≡◌,
+  ◌≢◌,
+  ◌-◌,
+  ℕ,
+  Bool,
+  true,
+  false,
+  cond,
+  List,
+  [],
+  ◌∷◌,
+  Some,
+  None,
+  Ordering,
+  Less,
+  Equal,
+  Greater,
+  length,
+  map,
+  refl,
+  sym,
+  ap,
+  ◌∙◌,
+  String,
+  Global,
+  string_bytes,
+  string_cmp,
+  true≢false,
+  arith,
+}
 use Rattle.std.specs.BTreeMap.{BTreeMap, insert_entry}
 use Rattle.std.specs.FinMap.{empty, from_entries, get, get-empty, get-from_entries, get-insert, insert}
 use Rattle.std.specs.List.Sorted.{IsStrictlySortedBy}

@@ -17,6 +17,17 @@ pub fn language<F: ParseFilter>(
     ensures registered { IfOk result (λ l. (l.filters ≡ filters) × (l.tags ≡ the_tags) × (l.blocks ≡ the_blocks)) }
     ensures means { IfOk result (λ l. meaning_of F.makes l ≡ tags_and_blocks (registry_of F.makes filters)) }
 {
+    Ok(Language {
+        filters,
+        tags: tags(alloc)?,
+        blocks: blocks(alloc)?,
+    })
+}
+
+/// Returns the tags, each under its name.
+fn tags(alloc: Global) -> Result<PluginRegistry<Tags>, AllocError>
+    ensures { IfOk result (λ tags. tags ≡ the_tags) }
+{
     let mut tags = PluginRegistry::new(alloc);
     tags.register("assign", Tags::Assign)?;
     tags.register("increment", Tags::Increment)?;
@@ -24,13 +35,16 @@ pub fn language<F: ParseFilter>(
     tags.register("continue", Tags::Continue)?;
     tags.register("include", Tags::Include)?;
     tags.register("render", Tags::Render)?;
+    Ok(tags)
+}
+
+/// Returns the blocks, each under its name.
+fn blocks(alloc: Global) -> Result<PluginRegistry<Blocks>, AllocError>
+    ensures { IfOk result (λ blocks. blocks ≡ the_blocks) }
+{
     let mut blocks = PluginRegistry::new(alloc);
     blocks.register("if", Blocks::If)?;
     blocks.register("for", Blocks::For)?;
     blocks.register("raw", Blocks::Raw)?;
-    Ok(Language {
-        filters,
-        tags,
-        blocks,
-    })
+    Ok(blocks)
 }

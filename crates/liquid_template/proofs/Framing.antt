@@ -1,11 +1,43 @@
 -- A frame that is pushed, rendered under and popped.
-use Rattle.std.proofs.Common.{◌≡◌, ℕ, ◌<◌, List, ◌∷◌, length, Option, None, Some, Result, Ok, Err, IfSome, refl, sym, ap, subst, ◌∙◌, arith, option_map}
+use Rattle.std.proofs.Common.{
+  ◌≡◌,
+  ℕ,
+  ◌<◌,
+  List,
+  ◌∷◌,
+  length,
+  Option,
+  None,
+  Some,
+  Result,
+  Ok,
+  Err,
+  IfSome,
+  refl,
+  sym,
+  ap,
+  subst,
+  ◌∙◌,
+  arith,
+  option_map,
+}
 use Rattle.liquid_error.specs.declared.error.Error.{Error}
 use Rattle.liquid_error.specs.meaning.Refusal.{Refusal}
 use Rattle.liquid_error.specs.meaning.Told.{told}
 use Rattle.liquid_error.specs.meaning.Helpers.{ErrBecomes}
 use Rattle.liquid_runtime.specs.meaning.View.{View}
-use Rattle.liquid_runtime.specs.meaning.Frames.{FrameShape, no_frame, stack_frame, sandboxed_frame, isolated_frame, global_frame, Restore, beginning, restored_by, ending}
+use Rattle.liquid_runtime.specs.meaning.Frames.{
+  FrameShape,
+  no_frame,
+  stack_frame,
+  sandboxed_frame,
+  isolated_frame,
+  global_frame,
+  Restore,
+  beginning,
+  restored_by,
+  ending,
+}
 use Rattle.liquid_runtime.specs.meaning.OpenFrames.{opened, EndsFirst}
 use Rattle.liquid_template.specs.meaning.Run.{Run, Action}
 use Rattle.liquid_template.specs.meaning.Actions.{under, refused_through}

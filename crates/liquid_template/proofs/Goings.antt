@@ -1,5 +1,6 @@
 -- The result of each turn of a node, as the cycle continues with it.
-use Rattle.std.proofs.Common.{Bool, true, false, is_ok, is_some, ◌≡◌, ℕ, suc, ◌-◌, ◌<◌, List, [], ◌∷◌, length, Option, Some, None, inl, inr, Result, Ok, Err, refl, sym, ap, subst, ◌∙◌}
+use Rattle.std.proofs.Common.{Bool, true, false, is_ok, is_some, ◌≡◌, ℕ, suc, ◌-◌, ◌<◌, List, [], ◌∷◌, length, Option, Some, None, inl}
+use Rattle.std.proofs.Common.{inr, Result, Ok, Err, refl, sym, ap, subst, ◌∙◌}
 use Rattle.std.specs.Prelude.{IfSome, OnSome, IsOk, IsErrAnd, MatchOption}
 use Rattle.std.proofs.lemmas.List.{append-nil}
 use Rattle.liquid_error.specs.meaning.Refusal.{Refusal}
@@ -26,11 +27,13 @@ use Rattle.liquid_template.specs.steps.Place.{TurnAsked}
 use Rattle.liquid_template.specs.steps.Sought.{store_answer}
 use Rattle.liquid_template.proofs.Framing.{renders_framed, framed_kept, renders_memory, opened_restored}
 use Rattle.liquid_template.proofs.Joins.{renders_done, renders_refused}
-use Rattle.liquid_template.proofs.Steps.{start_refused, taken, asked_first, asked_refused, turn_refused, turn_ends, turn_more, turn_fails, capture_more, capture_fails}
+use Rattle.liquid_template.proofs.Steps.{start_refused, taken, asked_first, asked_refused, turn_refused, turn_ends, turn_more, turn_fails}
+use Rattle.liquid_template.proofs.Steps.{capture_more, capture_fails}
 use Rattle.liquid_template.proofs.Capturing.{renders_silent, text_silent}
 use Rattle.liquid_template.proofs.Passing.{passes_none}
 use Rattle.liquid_template.proofs.Pouring.{pours_nothing, pours_refused}
-use Rattle.liquid_template.proofs.Renderings.{turns_done_at, list_fails_at, list_stops_at, list_goes_at, list_done_at, turn_puts, turn_bodies, turn_captures, turn_includes, if_then, deep_is, more_is}
+use Rattle.liquid_template.proofs.Renderings.{turns_done_at, list_fails_at, list_stops_at, list_goes_at, list_done_at, turn_puts}
+use Rattle.liquid_template.proofs.Renderings.{turn_bodies, turn_captures, turn_includes, if_then, deep_is, more_is}
 
 false-not-true : false ≡ true → ⊥
 false-not-true e = cc

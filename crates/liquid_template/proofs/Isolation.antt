@@ -1,5 +1,6 @@
 -- Under hidden globals a run is the same, except that the globals left are the old ones overlaid.
-use Rattle.std.proofs.Common.{◌≡◌, ℕ, zero, suc, List, [], ◌∷◌, ◌++◌, map, Bool, true, false, cond, is_some, Option, Some, None, Result, Ok, Err, refl, sym, ap, ◌∙◌, option_map}
+use Rattle.std.proofs.Common.{◌≡◌, ℕ, zero, suc, List, [], ◌∷◌, ◌++◌, map, Bool, true, false, cond, is_some, Option, Some, None, Result}
+use Rattle.std.proofs.Common.{Ok, Err, refl, sym, ap, ◌∙◌, option_map}
 use Rattle.std.specs.Prelude.{unwrap_or}
 use Rattle.std.specs.FinMap.{empty}
 use Rattle.liquid_error.specs.meaning.Refusal.{Refusal}
@@ -12,16 +13,20 @@ use Rattle.liquid_runtime.specs.meaning.NamesSeen.{upper_names}
 use Rattle.liquid_runtime.specs.meaning.Written.{with_written}
 use Rattle.liquid_runtime.specs.meaning.Erased.{Erased, erase, without_names}
 use Rattle.liquid_runtime.specs.meaning.Emptied.{emptied}
-use Rattle.liquid_runtime.specs.meaning.Frames.{FrameShape, no_frame, stack_frame, sandboxed_frame, isolated_frame, global_frame, Restore, restore_nothing, restore_global, restore_isolated, begin_sandboxed, begin_isolated, beginning, restored_by, ending}
+use Rattle.liquid_runtime.specs.meaning.Frames.{FrameShape, no_frame, stack_frame, sandboxed_frame, isolated_frame, global_frame, Restore}
+use Rattle.liquid_runtime.specs.meaning.Frames.{restore_nothing, restore_global, restore_isolated, begin_sandboxed, begin_isolated}
+use Rattle.liquid_runtime.specs.meaning.Frames.{beginning, restored_by, ending}
 use Rattle.liquid_plugins.specs.meaning.Evaluation.{evaluate}
 use Rattle.liquid_plugins.specs.meaning.Chain.{ChainShape, FilterMeaning, chain_value, filtered}
 use Rattle.liquid_plugins.specs.meaning.Turns.{Answered, TurnShape, text_turn, body_turn, partial_turn, capture_turn, end_turn, NodeMeaning}
 use Rattle.liquid_plugins.specs.meaning.Discreet.{hiding, overlaid, HidesGlobals, Discreet}
 use Rattle.liquid_plugins.proofs.ErasedLemmas.{evaluate_erased}
 use Rattle.liquid_error.specs.meaning.Refusal.{ok_then}
-use Rattle.liquid_plugins.specs.meaning.Nodes.{NodeShape, text_node, chain_node, tag_node, block_node, Nodes, no_nodes, node, Parts, no_parts, part}
+use Rattle.liquid_plugins.specs.meaning.Nodes.{NodeShape, text_node, chain_node, tag_node, block_node, Nodes, no_nodes, node, Parts}
+use Rattle.liquid_plugins.specs.meaning.Nodes.{no_parts, part}
 use Rattle.liquid_template.specs.meaning.Run.{Step, Run, Action, pieces, written}
-use Rattle.liquid_template.specs.meaning.Actions.{traced, refused_through, done, refuses, writes, writes_value, asks, goes_on, and_then, unless_interrupted, step_outside, outside, under, silent_step, silent, part_at}
+use Rattle.liquid_template.specs.meaning.Actions.{traced, refused_through, done, refuses, writes, writes_value, asks, goes_on, and_then}
+use Rattle.liquid_template.specs.meaning.Actions.{unless_interrupted, step_outside, outside, under, silent_step, silent, part_at}
 use Rattle.liquid_template.specs.meaning.Nodes.{Setting, performed, answered, turns, started, played, run_node, run_nodes, run_parts}
 use Rattle.liquid_template.specs.meaning.Partials.{partials_at, sought, read_as, no_store, too_deep}
 use Rattle.liquid_template.specs.meaning.Rendering.{nodes_run, sandboxed_run}

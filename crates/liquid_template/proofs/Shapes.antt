@@ -1,5 +1,28 @@
 -- The shapes of nodes, of a list's end, and of parts, and how many nodes they have.
-use Rattle.std.proofs.Common.{◌≡◌, ℕ, zero, suc, ◌+◌, ◌<◌, ◌≤◌, List, [], ◌∷◌, length, get_or, drop, map, refl, sym, ap, ◌∙◌, arith, add-one, drop-cons, string_bytes}
+use Rattle.std.proofs.Common.{
+  ◌≡◌,
+  ℕ,
+  zero,
+  suc,
+  ◌+◌,
+  ◌<◌,
+  ◌≤◌,
+  List,
+  [],
+  ◌∷◌,
+  length,
+  get_or,
+  drop,
+  map,
+  refl,
+  sym,
+  ap,
+  ◌∙◌,
+  arith,
+  add-one,
+  drop-cons,
+  string_bytes,
+}
 use Rattle.std.specs.declared.alloc.Global.{Global}
 use Rattle.std.specs.declared.vec.Vec.{Vec}
 use Rattle.std.specs.declared.string.String.{String}
@@ -10,7 +33,18 @@ use Rattle.liquid_plugins.specs.declared.tree.Node.{Node, Text, Brief, Name, Cha
 use Rattle.liquid_plugins.specs.declared.tree.Node.TheOpen as layer
 use Rattle.liquid_plugins.specs.declared.tree.Node.TheVariants.{rolls-Text, rolls-Brief, rolls-Name, rolls-Chain, rolls-Tag, rolls-Block}
 use Rattle.liquid_plugins.specs.declared.tree.Node.TheFolds.{fold-roll-Node, fold-Node}
-use Rattle.liquid_plugins.specs.meaning.Nodes.{NodeShape, text_node, chain_node, tag_node, block_node, no_nodes, node, part, nodes_from, parts_from}
+use Rattle.liquid_plugins.specs.meaning.Nodes.{
+  NodeShape,
+  text_node,
+  chain_node,
+  tag_node,
+  block_node,
+  no_nodes,
+  node,
+  part,
+  nodes_from,
+  parts_from,
+}
 use Rattle.liquid_plugins.specs.meaning.NodesOf.{name_chain, node_step, node_of, nodes_of}
 use Rattle.liquid_plugins.specs.meaning.Size.{size_node, size_nodes, size_parts}
 use Rattle.liquid_template.specs.steps.PartsOf.{parts_of}

@@ -27,7 +27,8 @@ Ascend : List (List ℕ × Tree) → Type 0
 Ascend [] = Unit {0}
 Ascend (e ∷ es) = AllByRecursion (λ (other : List ℕ × Tree). slice_cmp nat_cmp e.0 other.0 ≡ Less) es × Ascend es
 
-below : (k : List ℕ) (es : List Entry) → AllByRecursion (λ q. slice_cmp nat_cmp k (string_bytes q) ≡ Less) (keys_of es) ≡ AllByRecursion (λ (e : List ℕ × Tree). slice_cmp nat_cmp k e.0 ≡ Less) (map entry_view es)
+below : (k : List ℕ) (es : List Entry) → AllByRecursion (λ q. slice_cmp nat_cmp k (string_bytes q) ≡ Less) (keys_of es) ≡ AllByRecursion
+    (λ (e : List ℕ × Tree). slice_cmp nat_cmp k e.0 ≡ Less) (map entry_view es)
 below k [] = refl
 below k (e ∷ es) = ap (λ (rest : Type 0). (slice_cmp nat_cmp k (string_bytes e.0) ≡ Less) × rest) (below k es)
 
@@ -37,5 +38,7 @@ ascending [] = refl
 ascending (e ∷ es) = ap₂ (λ (first rest : Type 0). first × rest) (below (string_bytes e.0) es) (ascending es)
 
 -- they have their names in the same order
-pub copied_order : (xs ys : List Entry) → map entry_view xs ≡ map entry_view ys → IsStrictlySortedBy string_cmp (keys_of ys) → IsStrictlySortedBy string_cmp (keys_of xs)
-copied_order xs ys same h = subst (λ (A : Type 0). A) (sym (ascending xs)) (subst Ascend (sym same) (subst (λ (A : Type 0). A) (ascending ys) h))
+pub copied_order : (xs ys : List Entry) → map entry_view xs ≡ map entry_view ys → IsStrictlySortedBy string_cmp (keys_of ys)
+    → IsStrictlySortedBy string_cmp (keys_of xs)
+copied_order xs ys same h = subst (λ (A : Type 0). A) (sym (ascending xs))
+    (subst Ascend (sym same) (subst (λ (A : Type 0). A) (ascending ys) h))

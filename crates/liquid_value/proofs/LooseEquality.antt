@@ -37,7 +37,8 @@ mutual
   members_reflexive : (onward : Bool) (ms : Members) → members_without_truthy ms ≡ true → members_facing onward ms ms ≡ true
   members_reflexive onward no_members h = refl
   members_reflexive onward (member k t ms) h =
-      both_true (nat_list_eq_equiv.refl k) (both_true (reflexive (not onward) t (first_true _ _ h)) (members_reflexive onward ms (second_true _ _ h)))
+      both_true (nat_list_eq_equiv.refl k) (both_true (reflexive (not onward) t (first_true _ _ h))
+      (members_reflexive onward ms (second_true _ _ h)))
 
 -- without the truthy state, a value loosely equals itself
 pub value_eq_refl : (t : Tree) → without_truthy t ≡ true → value_eq t t ≡ true
@@ -70,7 +71,8 @@ leaf_symm (object ls) (scalar y) h k = refl
 leaf_symm (object ls) (array rs) h k = refl
 leaf_symm (object ls) (object rs) h k = refl
 
-facing_symm : (onward : Bool) (l r : Tree) → without_truthy l ≡ true → without_truthy r ≡ true → leaf_facing onward l r ≡ leaf_facing onward r l
+facing_symm : (onward : Bool) (l r : Tree) → without_truthy l ≡ true → without_truthy r ≡ true
+    → leaf_facing onward l r ≡ leaf_facing onward r l
 facing_symm true l r h k = leaf_symm l r h k
 facing_symm false l r h k = leaf_symm r l k h
 
@@ -102,7 +104,8 @@ mutual
   symmetric onward (object ls) (array rs) h k = facing_symm onward (object ls) (array rs) h k
   symmetric onward (object ls) (object rs) h k = members_symmetric onward ls rs h k
 
-  items_symmetric : (onward : Bool) (ls rs : Items) → items_without_truthy ls ≡ true → items_without_truthy rs ≡ true → items_facing onward ls rs ≡ items_facing onward rs ls
+  items_symmetric : (onward : Bool) (ls rs : Items) → items_without_truthy ls ≡ true → items_without_truthy rs ≡ true
+      → items_facing onward ls rs ≡ items_facing onward rs ls
   items_symmetric onward no_items no_items h k = refl
   items_symmetric onward no_items (item r rs) h k = refl
   items_symmetric onward (item l ls) no_items h k = refl
@@ -110,14 +113,17 @@ mutual
       ap (λ b. b && items_facing onward ls rs) (symmetric onward l r (first_true _ _ h) (first_true _ _ k))
       ∙ ap (λ b. facing onward r l && b) (items_symmetric onward ls rs (second_true _ _ h) (second_true _ _ k))
 
-  members_symmetric : (onward : Bool) (ls rs : Members) → members_without_truthy ls ≡ true → members_without_truthy rs ≡ true → members_facing onward ls rs ≡ members_facing onward rs ls
+  members_symmetric : (onward : Bool) (ls rs : Members) → members_without_truthy ls ≡ true → members_without_truthy rs ≡ true
+      → members_facing onward ls rs ≡ members_facing onward rs ls
   members_symmetric onward no_members no_members h k = refl
   members_symmetric onward no_members (member q r rs) h k = refl
   members_symmetric onward (member p l ls) no_members h k = refl
   members_symmetric onward (member p l ls) (member q r rs) h k =
       ap (λ b. b && (facing (not onward) l r && members_facing onward ls rs)) (nat_list_eq_equiv.symm p q)
-      ∙ ap (λ b. pointwise nat_eq q p && (b && members_facing onward ls rs)) (symmetric (not onward) l r (first_true _ _ h) (first_true _ _ k))
-      ∙ ap (λ b. pointwise nat_eq q p && (facing (not onward) r l && b)) (members_symmetric onward ls rs (second_true _ _ h) (second_true _ _ k))
+      ∙ ap (λ b. pointwise nat_eq q p && (b && members_facing onward ls rs))
+      (symmetric (not onward) l r (first_true _ _ h) (first_true _ _ k))
+      ∙ ap (λ b. pointwise nat_eq q p && (facing (not onward) r l && b))
+      (members_symmetric onward ls rs (second_true _ _ h) (second_true _ _ k))
 
 -- without the truthy state, loose equality is symmetric
 pub value_eq_symm : (l r : Tree) → without_truthy l ≡ true → without_truthy r ≡ true → value_eq l r ≡ value_eq r l

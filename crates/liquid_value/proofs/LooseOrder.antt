@@ -5,13 +5,18 @@ use Rattle.std.specs.Ordering.{nat_cmp, is_eq, ordering_reverse}
 use Rattle.std.specs.Cmp.Lexicographic.{pointwise, slice_cmp, nat_list_cmp_total, texts_ties}
 use Rattle.liquid_scalar.specs.meaning.Scalar.{Scal}
 use Rattle.liquid_scalar.specs.meaning.ScalarCompare.{scalar_cmp}
-use Rattle.liquid_scalar.specs.steps.ScalarLawProofs.{loose_symm as scalar_symm, order_swapped as scalar_swapped, equal_is_loose as scalar_equal}
+use Rattle.liquid_scalar.specs.steps.ScalarLawProofs.{
+  loose_symm as scalar_symm,
+  order_swapped as scalar_swapped,
+  equal_is_loose as scalar_equal,
+}
 use Rattle.liquid_value.specs.steps.Conjunction.{both_true}
 use Rattle.liquid_value.specs.meaning.Loose.{facing, items_facing, members_facing, value_eq}
 use Rattle.liquid_value.specs.meaning.Order.{deciding, value_cmp, items_cmp, members_cmp}
 use Rattle.liquid_value.specs.meaning.Tree.{Tree, nil, state, scalar, array, object, Items, no_items, item, Members, no_members, member}
 
-deciding_reversed : (a b : Option Ordering) → deciding (option_map ordering_reverse a) (option_map ordering_reverse b) ≡ option_map ordering_reverse (deciding a b)
+deciding_reversed : (a b : Option Ordering) → deciding (option_map ordering_reverse a)
+    (option_map ordering_reverse b) ≡ option_map ordering_reverse (deciding a b)
 deciding_reversed None b = refl
 deciding_reversed (Some Less) b = refl
 deciding_reversed (Some Equal) b = refl
@@ -62,7 +67,8 @@ mutual
   members_swapped (member k l ls) (member q r rs) =
       ap (λ o. deciding (Some o) (deciding (value_cmp r l) (members_cmp rs ls))) (nat_list_cmp_total.antisymm q k)
       ∙ ap (λ o. deciding (Some (ordering_reverse (slice_cmp nat_cmp k q))) (deciding o (members_cmp rs ls))) (order_swapped l r)
-      ∙ ap (λ o. deciding (Some (ordering_reverse (slice_cmp nat_cmp k q))) (deciding (option_map ordering_reverse (value_cmp l r)) o)) (members_swapped ls rs)
+      ∙ ap (λ o. deciding (Some (ordering_reverse (slice_cmp nat_cmp k q))) (deciding (option_map ordering_reverse (value_cmp l r)) o))
+      (members_swapped ls rs)
       ∙ ap (λ o. deciding (Some (ordering_reverse (slice_cmp nat_cmp k q))) o) (deciding_reversed (value_cmp l r) (members_cmp ls rs))
       ∙ deciding_reversed (Some (slice_cmp nat_cmp k q)) (deciding (value_cmp l r) (members_cmp ls rs))
 
@@ -126,7 +132,9 @@ mutual
   members_equal onward (member k l ls) no_members e = cc
   members_equal onward (member k l ls) (member q r rs) e =
       let values = rest_equal (Some (slice_cmp nat_cmp k q)) (deciding (value_cmp l r) (members_cmp ls rs)) e in
-      both_true (same_name k q (first_equal (Some (slice_cmp nat_cmp k q)) (deciding (value_cmp l r) (members_cmp ls rs)) e)) (both_true (equal_is_facing (not onward) l r (first_equal (value_cmp l r) (members_cmp ls rs) values)) (members_equal onward ls rs (rest_equal (value_cmp l r) (members_cmp ls rs) values)))
+      both_true (same_name k q (first_equal (Some (slice_cmp nat_cmp k q)) (deciding (value_cmp l r) (members_cmp ls rs)) e))
+      (both_true (equal_is_facing (not onward) l r (first_equal (value_cmp l r) (members_cmp ls rs) values))
+      (members_equal onward ls rs (rest_equal (value_cmp l r) (members_cmp ls rs) values)))
 
 -- values that compare as `Equal` are loosely equal
 pub equal_is_loose : (l r : Tree) → value_cmp l r ≡ Some Equal → value_eq l r ≡ true

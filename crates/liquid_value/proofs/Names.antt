@@ -9,7 +9,8 @@ use Rattle.liquid_value.specs.laws.LooseLaws.{comes_before, in_name_order}
 use Rattle.liquid_value.specs.meaning.View.{members_view}
 use Rattle.liquid_value.proofs.Entries.{Entry}
 
-before_all : (e : Entry) (es : List Entry) → AllByRecursion (λ y. string_cmp e.0 y ≡ Less) (keys_of es) → comes_before (string_bytes e.0) (members_view es) ≡ true
+before_all : (e : Entry) (es : List Entry) → AllByRecursion (λ y. string_cmp e.0 y ≡ Less) (keys_of es)
+    → comes_before (string_bytes e.0) (members_view es) ≡ true
 before_all e [] h = refl
 before_all e (x ∷ es) h = both_true (ap is_lt h.0) (before_all e es h.1)
 

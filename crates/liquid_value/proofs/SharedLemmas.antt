@@ -31,19 +31,25 @@ copied_items [] (y ∷ ys) h = absurd h
 copied_items (x ∷ xs) [] h = absurd h
 copied_items (x ∷ xs) (y ∷ ys) h = ap (λ t. item t (items_view ys)) h.0 ∙ ap (item (view x)) (copied_items xs ys h.1)
 
-pub same_or_copied_list : (v w : Vec Value) → (w ≡ v) ⊎ (AllZip (λ (x y : Value). view y ≡ view x) v.items w.items × (vec_len w ≡ vec_len v)) → items_view w.items ≡ items_view v.items
+pub same_or_copied_list : (v w : Vec Value) → (w ≡ v) ⊎ (AllZip (λ (x y : Value). view y ≡ view x) v.items w.items
+    × (vec_len w ≡ vec_len v)) → items_view w.items ≡ items_view v.items
 same_or_copied_list v w h = ⊎_elim (λ e. ap (λ (k : Vec Value). items_view k.items) e) (λ k. copied_items v.items w.items k.0) h
 
 -- the members of a copy of a map
-copied : (xs ys : List Entry) → AllZip (λ (p q : Entry). (string_bytes q.0 ≡ string_bytes p.0) × (view q.1 ≡ view p.1)) xs ys → members_view ys ≡ members_view xs
+copied : (xs ys : List Entry) → AllZip (λ (p q : Entry). (string_bytes q.0 ≡ string_bytes p.0) × (view q.1 ≡ view p.1)) xs ys
+    → members_view ys ≡ members_view xs
 copied [] [] h = refl
 copied [] (y ∷ ys) h = absurd h
 copied (x ∷ xs) [] h = absurd h
 copied (x ∷ xs) (y ∷ ys) h =
-    ap (λ k. member k (view y.1) (members_view ys)) h.0.0 ∙ ap (λ t. member (string_bytes x.0) t (members_view ys)) h.0.1 ∙ ap (member (string_bytes x.0) (view x.1)) (copied xs ys h.1)
+    ap (λ k. member k (view y.1) (members_view ys)) h.0.0 ∙ ap (λ t. member (string_bytes x.0) t (members_view ys)) h.0.1
+    ∙ ap (member (string_bytes x.0) (view x.1)) (copied xs ys h.1)
 
-pub same_or_copied_map : (m n : BTreeMap (String Global) Value) → (n ≡ m) ⊎ IsClone (λ (s t : String Global). string_bytes t ≡ string_bytes s) (λ v w. view w ≡ view v) m n → members_view n.entries ≡ members_view m.entries
-same_or_copied_map m n h = ⊎_elim (λ e. ap (λ (k : BTreeMap (String Global) Value). members_view k.entries) e) (λ k. copied m.entries n.entries k) h
+pub same_or_copied_map : (m n : BTreeMap (String Global) Value) → (n ≡ m) ⊎ IsClone
+    (λ (s t : String Global). string_bytes t ≡ string_bytes s) (λ v w. view w ≡ view v) m n
+    → members_view n.entries ≡ members_view m.entries
+same_or_copied_map m n h = ⊎_elim (λ e. ap (λ (k : BTreeMap (String Global) Value). members_view k.entries) e)
+    (λ k. copied m.entries n.entries k) h
 
 -- an equation followed by one that a premise gives
 pub and_then : {A H : Type 0} {a b c : A} → a ≡ b → (H → b ≡ c) → H → a ≡ c

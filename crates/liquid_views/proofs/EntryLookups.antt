@@ -1,5 +1,39 @@
 -- What is found at a name among the members that the entries of a map without an order give.
-use Rattle.std.proofs.Common.{Bor, ◌≡◌, ℕ, suc, ◌+◌, List, [], ◌∷◌, length, Option, None, Some, String, Global, Bool, true, false, true≢false, Ordering, Less, Equal, Greater, string_bytes, nat_cmp, is_eq, bytes_eq, cond, refl, sym, ap, ◌∙◌, subst, arith}
+use Rattle.std.proofs.Common.{
+  Bor,
+  ◌≡◌,
+  ℕ,
+  suc,
+  ◌+◌,
+  List,
+  [],
+  ◌∷◌,
+  length,
+  Option,
+  None,
+  Some,
+  String,
+  Global,
+  Bool,
+  true,
+  false,
+  true≢false,
+  Ordering,
+  Less,
+  Equal,
+  Greater,
+  string_bytes,
+  nat_cmp,
+  is_eq,
+  bytes_eq,
+  cond,
+  refl,
+  sym,
+  ap,
+  ◌∙◌,
+  subst,
+  arith,
+}
 use Rattle.std.proofs.lemmas.Cmp.{nat_list_cmp_total, tied_itself}
 use Rattle.std.proofs.lemmas.Map.Text.{is_eq-slice_cmp}
 use Rattle.std.proofs.lemmas.Slice.Eq.{bytes_eq-Decides}

@@ -1,5 +1,29 @@
 -- The members that the entries of a map without an order give.
-use Rattle.std.proofs.Common.{◌≡◌, ℕ, List, [], ◌∷◌, ◌++◌, length, Bor, String, Global, false, Ordering, Less, Equal, Greater, string_bytes, nat_cmp, refl, sym, ap, ◌∙◌, append_assoc, rules}
+use Rattle.std.proofs.Common.{
+  ◌≡◌,
+  ℕ,
+  List,
+  [],
+  ◌∷◌,
+  ◌++◌,
+  length,
+  Bor,
+  String,
+  Global,
+  false,
+  Ordering,
+  Less,
+  Equal,
+  Greater,
+  string_bytes,
+  nat_cmp,
+  refl,
+  sym,
+  ap,
+  ◌∙◌,
+  append_assoc,
+  rules,
+}
 use Rattle.std.specs.Prelude.{◌==◌}
 use Rattle.std.specs.BTreeMap.{insert_entry}
 use Rattle.std.specs.Cmp.Lexicographic.{slice_cmp}

@@ -1,5 +1,32 @@
 -- A list and the items that it means.
-use Rattle.std.proofs.Common.{Bor, ◌≡◌, ℕ, zero, suc, ◌+◌, ◌<◌, ◌≤◌, List, [], ◌∷◌, ◌++◌, length, drop, get_or, Option, None, Some, refl, sym, ap, ◌∙◌, append_assoc, add-one, arith, rules}
+use Rattle.std.proofs.Common.{
+  Bor,
+  ◌≡◌,
+  ℕ,
+  zero,
+  suc,
+  ◌+◌,
+  ◌<◌,
+  ◌≤◌,
+  List,
+  [],
+  ◌∷◌,
+  ◌++◌,
+  length,
+  drop,
+  get_or,
+  Option,
+  None,
+  Some,
+  refl,
+  sym,
+  ap,
+  ◌∙◌,
+  append_assoc,
+  add-one,
+  arith,
+  rules,
+}
 use borrow.Author.Tests.{ltb-true}
 use Rattle.std.specs.Prelude.{◌==◌, ◌-◌, Bool, true, false, nat_lt, is_some, if◌then◌else◌, ℤ, pos, negsuc, option_map, option_and_then}
 use Rattle.std.proofs.Math.Seq.{drop-cons}

@@ -1,5 +1,35 @@
 -- A map's entries and the members that they mean.
-use Rattle.std.proofs.Common.{◌≡◌, ℕ, suc, List, [], ◌∷◌, ◌++◌, length, Option, None, Some, String, Global, Ordering, Less, Equal, Greater, string_bytes, string_cmp, nat_cmp, is_eq, is_some, cond, refl, sym, ap, ◌∙◌, append_assoc, rules}
+use Rattle.std.proofs.Common.{
+  ◌≡◌,
+  ℕ,
+  suc,
+  List,
+  [],
+  ◌∷◌,
+  ◌++◌,
+  length,
+  Option,
+  None,
+  Some,
+  String,
+  Global,
+  Ordering,
+  Less,
+  Equal,
+  Greater,
+  string_bytes,
+  string_cmp,
+  nat_cmp,
+  is_eq,
+  is_some,
+  cond,
+  refl,
+  sym,
+  ap,
+  ◌∙◌,
+  append_assoc,
+  rules,
+}
 use Rattle.std.proofs.lemmas.Cmp.{nat_list_cmp_total}
 use Rattle.std.specs.Prelude.{◌==◌, option_map}
 use Rattle.std.specs.BTreeMap.{is_at}

@@ -6,7 +6,19 @@ use Rattle.liquid_value.specs.meaning.Parts.{as_scalar, as_array, as_object, as_
 use Rattle.liquid_value.specs.meaning.Render.{render}
 use Rattle.liquid_value.specs.meaning.Tree.{Tree, nil, state, scalar, array, object}
 use Rattle.liquid_value.specs.declared.state.State.{State}
-use Rattle.liquid_views.specs.meaning.Outline.{nil_outline, state_outline, scalar_outline, outline, outline_name, outline_state, outline_scalar, outline_own_state, is_array_outline, is_object_outline, is_nil_outline}
+use Rattle.liquid_views.specs.meaning.Outline.{
+  nil_outline,
+  state_outline,
+  scalar_outline,
+  outline,
+  outline_name,
+  outline_state,
+  outline_scalar,
+  outline_own_state,
+  is_array_outline,
+  is_object_outline,
+  is_nil_outline,
+}
 
 pub name_of_outline : (t : Tree) → outline_name (outline t) ≡ type_name t
 name_of_outline nil = refl

@@ -13,7 +13,18 @@ use Rattle.liquid_partials.specs.meaning.Compiled.{Compiled}
 use Rattle.liquid_partials.specs.meaning.Sources.{Texts}
 use Rattle.liquid_partials.proofs.RenderedLemmas.{RenderedBy-refused}
 use Rattle.shop.specs.meaning.Languages.{the_language}
-use Rattle.shop.specs.meaning.Pages.{ShopAnswer, ShopFound, ShopLang, shop_setting, the_partials, visit_names, FindsPartials, Follows, ReviewShown, SandboxShown}
+use Rattle.shop.specs.meaning.Pages.{
+  ShopAnswer,
+  ShopFound,
+  ShopLang,
+  shop_setting,
+  the_partials,
+  visit_names,
+  FindsPartials,
+  Follows,
+  ReviewShown,
+  SandboxShown,
+}
 
 -- what a store finds that was compiled from the same texts in a language of the same meaning
 pub compiled_alike : (l k : ShopLang) (texts others : Texts) (found : ShopFound) → l ≡ k → texts ≡ others → Compiled l texts found

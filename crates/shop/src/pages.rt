@@ -222,9 +222,9 @@ fn store_of(alloc: Global, language: &Rc<ShopLanguage>) -> Result<ShopStore, All
 }
 
 /// Returns the runtime over these goods and this store.
-fn runtime_of(alloc: Global, goods: Object, store: ShopStore) -> ShopRuntime
-    ensures view { ⟦<ShopRuntime as Runtime>⟧.view result ≡ built_view tt 32 (names_of goods) }
-    ensures store { ⟦<ShopRuntime as Runtime>⟧.store result ≡ Some store }
+fn runtime_of<P: Drop>(alloc: Global, goods: Object, store: P) -> BuiltRuntime<(), P>
+    ensures view { ⟦<BuiltRuntime<(), P> as Runtime>⟧.view result ≡ built_view tt 32 (names_of goods) }
+    ensures store { ⟦<BuiltRuntime<(), P> as Runtime>⟧.store result ≡ Some store }
 {
     RuntimeBuilder::new(alloc)
         .set_globals(goods)

@@ -1,5 +1,24 @@
 -- How the tokens of a condition are read, test by test.
-use Rattle.std.proofs.Common.{◌≡◌, List, [], ◌∷◌, ◌++◌, Option, None, Some, option_map, Result, Ok, Err, refl, sym, ap, subst, ◌∙◌, append_assoc}
+use Rattle.std.proofs.Common.{
+  ◌≡◌,
+  List,
+  [],
+  ◌∷◌,
+  ◌++◌,
+  Option,
+  None,
+  Some,
+  option_map,
+  Result,
+  Ok,
+  Err,
+  refl,
+  sym,
+  ap,
+  subst,
+  ◌∙◌,
+  append_assoc,
+}
 use Rattle.std.specs.Prelude.{IfSome, option_and_then}
 use Rattle.std.proofs.lemmas.List.{append-nil}
 use Rattle.liquid_error.specs.declared.place.Place.{Place}
@@ -13,7 +32,16 @@ use Rattle.std_conditions.specs.declared.condition.Connective.{Connective}
 use Rattle.std_conditions.specs.declared.condition.Operator.{Operator}
 use Rattle.std_conditions.specs.declared.condition.TestShape.{TestShape}
 use Rattle.std_conditions.specs.declared.condition.TestShape.TheVariants.{Holds, Passes}
-use Rattle.std_conditions.specs.meaning.ConditionsGiven.{after_test, after_value, condition_given, connective_of, from_second, from_value, joined_by, operator_of}
+use Rattle.std_conditions.specs.meaning.ConditionsGiven.{
+  after_test,
+  after_value,
+  condition_given,
+  connective_of,
+  from_second,
+  from_value,
+  joined_by,
+  operator_of,
+}
 use Rattle.std_conditions.specs.steps.Tests.{operator_in, test_from, test_given}
 
 abbrev tokens : Token → List Token → Tokens

@@ -8,7 +8,13 @@ use Rattle.jiff_core.specs.Time.{time_seconds}
 use Rattle.jiff_core.specs.declared.civil.date.Date.{Date as CivilDate}
 use Rattle.jiff_core.specs.declared.civil.time.Time.{Time as CivilTime}
 use Rattle.jiff_core.proofs.CalendarLemmas.{days_in_month_bounds}
-use Rattle.jiff_core.proofs.DateLemmas.{days_from_civil-day, days_from_civil-min, days_from_civil-max, days_from_civil-next_month, days_from_civil-next_year}
+use Rattle.jiff_core.proofs.DateLemmas.{
+  days_from_civil-day,
+  days_from_civil-min,
+  days_from_civil-max,
+  days_from_civil-next_month,
+  days_from_civil-next_year,
+}
 use Rattle.jiff_core.proofs.SignedLemmas.{signed_arith}
 use Rattle.liquid_dates.specs.declared.date_time.DateTime.{DateTime}
 use Rattle.liquid_dates.specs.meaning.DateText.{IsUnixTime}

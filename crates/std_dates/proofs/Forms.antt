@@ -2,13 +2,61 @@
 use Rattle.std.proofs.Common.{◌≡◌, inl, inr, ℕ, List, refl, sym, ap, ◌∙◌, Option, Some, None, ℤ, subst, unwrap_or}
 use Rattle.jiff_core.specs.declared.civil.date.Date.{Date as CivilDate}
 use Rattle.liquid_dates.specs.declared.date_time.DateTime.{DateTime}
-use Rattle.liquid_dates.specs.meaning.DateText.{first, dashed_date, long_date, short_date, date_forms, dashed_date_time, fraction_date_time, long_date_time, short_date_time, slashed_date_time, weekday_date_time, day_forms, date_time_forms}
+use Rattle.liquid_dates.specs.meaning.DateText.{
+  first,
+  dashed_date,
+  long_date,
+  short_date,
+  date_forms,
+  dashed_date_time,
+  fraction_date_time,
+  long_date_time,
+  short_date_time,
+  slashed_date_time,
+  weekday_date_time,
+  day_forms,
+  date_time_forms,
+}
 use Rattle.liquid_dates.specs.meaning.Instant.{civil_date, civil_time, nanosecond, offset_seconds}
 use Rattle.liquid_dates.specs.meaning.Names.{month_name, short_month_name}
-use Rattle.liquid_dates.specs.steps.DateReader.{Read, whole_of, joined_at, dashed_at, long_at, short_at, offset_at, timed_dashed_at, timed_fraction_at, timed_long_at, timed_short_at, timed_slashed_at, timed_weekday_at}
-use Rattle.liquid_dates.proofs.PairForms.{Form, joined, dashed, day_month, hms, offset_form, timed_dashed, timed_fraction, timed_day_month, timed_slashed, timed_weekday}
+use Rattle.liquid_dates.specs.steps.DateReader.{
+  Read,
+  whole_of,
+  joined_at,
+  dashed_at,
+  long_at,
+  short_at,
+  offset_at,
+  timed_dashed_at,
+  timed_fraction_at,
+  timed_long_at,
+  timed_short_at,
+  timed_slashed_at,
+  timed_weekday_at,
+}
+use Rattle.liquid_dates.proofs.PairForms.{
+  Form,
+  joined,
+  dashed,
+  day_month,
+  hms,
+  offset_form,
+  timed_dashed,
+  timed_fraction,
+  timed_day_month,
+  timed_slashed,
+  timed_weekday,
+}
 use Rattle.liquid_dates.proofs.DateTextLemmas.{Reads, joined_reads, whole_sound, whole_complete, dashed_reads, long_reads, short_reads}
-use Rattle.liquid_dates.proofs.TimedLemmas.{offset_reads, timed_dashed_reads, timed_fraction_reads, timed_long_reads, timed_short_reads, timed_slashed_reads, timed_weekday_reads}
+use Rattle.liquid_dates.proofs.TimedLemmas.{
+  offset_reads,
+  timed_dashed_reads,
+  timed_fraction_reads,
+  timed_long_reads,
+  timed_short_reads,
+  timed_slashed_reads,
+  timed_weekday_reads,
+}
 use Rattle.std_dates.proofs.Deciding.{Decided, same_decided, first_decided}
 use Rattle.std_dates.proofs.Parts.{IsOn, on_decided, IsAt, at_decided, of_parts}
 

@@ -9,7 +9,16 @@ use Rattle.jiff_core.specs.declared.civil.date.Date.{Date as CivilDate}
 use Rattle.jiff_core.proofs.DateTimeLemmas.{time_nanos_injective}
 use Rattle.jiff_core.proofs.SignedLemmas.{signed_arith}
 use Rattle.liquid_dates.specs.declared.date_time.DateTime.{DateTime}
-use Rattle.liquid_dates.specs.meaning.DateText.{IsNow, IsDateText, IsDateTimeText, IsUnixTime, date_forms, date_time_forms, ends_in_offset, with_given_offset}
+use Rattle.liquid_dates.specs.meaning.DateText.{
+  IsNow,
+  IsDateText,
+  IsDateTimeText,
+  IsUnixTime,
+  date_forms,
+  date_time_forms,
+  ends_in_offset,
+  with_given_offset,
+}
 use Rattle.liquid_dates.specs.meaning.Instant.{civil_date, civil_time}
 use Rattle.liquid_dates.proofs.DateTimeForms.{date_time_once}
 use Rattle.liquid_dates.proofs.UnixTimeLemmas.{unix_once}

@@ -1,11 +1,41 @@
 -- What the filter `date` prints.
-use Rattle.std.proofs.Common.{◌≡◌, ◌≢◌, inl, inr, ℕ, List, [], ◌∷◌, length, nat_eq, Bool, true, false, cond, Option, None, Some, Result, Ok, Err, refl, ap, ◌∙◌, arith}
+use Rattle.std.proofs.Common.{
+  ◌≡◌,
+  ◌≢◌,
+  inl,
+  inr,
+  ℕ,
+  List,
+  [],
+  ◌∷◌,
+  length,
+  nat_eq,
+  Bool,
+  true,
+  false,
+  cond,
+  Option,
+  None,
+  Some,
+  Result,
+  Ok,
+  Err,
+  refl,
+  ap,
+  ◌∙◌,
+  arith,
+}
 use Rattle.std.specs.Prelude.{IfSome, codes}
 use Rattle.std.specs.Str.{chars}
 use Rattle.std.proofs.lemmas.Bool.Decides.{nat_tests}
 use Rattle.liquid_dates.specs.declared.date_time.DateTime.{DateTime}
 use Rattle.liquid_dates.specs.declared.error.DateFormatError.{DateFormatError}
-use Rattle.liquid_dates.specs.declared.error.DateFormatError.TheVariants.{NoFormatSpecifier, NoFormatSpecifierAfterModifier, InvalidWidth, Memory}
+use Rattle.liquid_dates.specs.declared.error.DateFormatError.TheVariants.{
+  NoFormatSpecifier,
+  NoFormatSpecifierAfterModifier,
+  InvalidWidth,
+  Memory,
+}
 use Rattle.liquid_dates.specs.meaning.Pattern.{FormatsTo, OnRefusal}
 use Rattle.liquid_dates.proofs.FormatLemmas.{formats_once}
 use Rattle.liquid_dates.proofs.PatternLemmas.{some_reading}

@@ -1,5 +1,27 @@
 -- The entries whose key was not seen.
-use Rattle.std.proofs.Common.{◌≡◌, Bool, true, false, not, ◌&&◌, ◌||◌, cond, List, [], ◌∷◌, filter, ◌++◌, map, append_assoc, refl, sym, ap, ◌∙◌, inl, inr}
+use Rattle.std.proofs.Common.{
+  ◌≡◌,
+  Bool,
+  true,
+  false,
+  not,
+  ◌&&◌,
+  ◌||◌,
+  cond,
+  List,
+  [],
+  ◌∷◌,
+  filter,
+  ◌++◌,
+  map,
+  append_assoc,
+  refl,
+  sym,
+  ap,
+  ◌∙◌,
+  inl,
+  inr,
+}
 use Rattle.std.specs.List.{list_any}
 use Rattle.std.specs.Borrow.{Bor}
 use Rattle.std.specs.List.Sorted.{IsPermutation}

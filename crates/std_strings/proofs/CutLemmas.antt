@@ -1,5 +1,35 @@
 -- A text cut at a character.
-use Rattle.std.proofs.Common.{◌≡◌, ℕ, ◌+◌, ◌-◌, ◌≤◌, List, [], ◌∷◌, ◌++◌, ◌&&◌, ◌||◌, true, not, eqb, ltb, map, length, take, drop, refl, sym, ap, subst, ◌∙◌, arith, take-append-drop, drop-drop, length-append, length-drop}
+use Rattle.std.proofs.Common.{
+  ◌≡◌,
+  ℕ,
+  ◌+◌,
+  ◌-◌,
+  ◌≤◌,
+  List,
+  [],
+  ◌∷◌,
+  ◌++◌,
+  ◌&&◌,
+  ◌||◌,
+  true,
+  not,
+  eqb,
+  ltb,
+  map,
+  length,
+  take,
+  drop,
+  refl,
+  sym,
+  ap,
+  subst,
+  ◌∙◌,
+  arith,
+  take-append-drop,
+  drop-drop,
+  length-append,
+  length-drop,
+}
 use Rattle.std.proofs.Math.Seq.{take-append_seam}
 use Rattle.std.proofs.lemmas.List.{nil_from_length}
 use Rattle.std.proofs.lemmas.Str.{chars_from_encodes, encodes-append, encodes-chars, IsCharBoundary-at_seam}
@@ -25,7 +55,8 @@ pub cuts_at : (bs back : List ℕ) (n : ℕ) → IsUtf8 bs → back ≡ encode_u
 cuts_at bs back n u e =
     let front = encode_utf8_all (take n (chars bs)) in
     let split : bs ≡ front ++ back =
-    sym (encodes-chars bs u) ∙ ap encode_utf8_all (sym (take-append-drop n (chars bs))) ∙ encodes-append (take n (chars bs)) (drop n (chars bs)) ∙ ap (λ l. front ++ l) (sym e) in
+    sym (encodes-chars bs u) ∙ ap encode_utf8_all (sym (take-append-drop n (chars bs)))
+    ∙ encodes-append (take n (chars bs)) (drop n (chars bs)) ∙ ap (λ l. front ++ l) (sym e) in
     let whole : length bs ≡ length front + length back = ap length split ∙ length-append front back in
     let len : length bs - length back ≡ length front = omega arith in
     let text : IsUtf8 back = after_text (take n (chars bs)) back (subst IsUtf8 split u) in
@@ -51,7 +82,8 @@ pub cut_words : {X : Type 0} (f : X → List ℕ) (xs : List X) (n : ℕ) (endin
 cut_words f xs n ending text all more =
     let count : length (words text) ≡ length xs = ap length (sym all) ∙ length-map xs f in
     let goes : goes_on n text ≡ true = rw count (sym more) in
-    ap (λ l. l ++ ending) (join_by_view f (codes " ") (take n xs) ∙ ap (join_by (λ word. word) (codes " ")) (sym (take-map f n xs) ∙ ap (take n) all))
+    ap (λ l. l ++ ending) (join_by_view f (codes " ") (take n xs) ∙ ap (join_by (λ word. word) (codes " "))
+    (sym (take-map f n xs) ∙ ap (take n) all))
     ∙ sym (cond-true _ _ _ goes)
 
 -- the characters of what is left after that many
@@ -59,5 +91,6 @@ pub chars_of_rest : (bs : List ℕ) (n : ℕ) → IsUtf8 bs → chars (encode_ut
 chars_of_rest bs n u =
     let rest = encode_utf8_all (drop n (chars bs)) in
     let split : bs ≡ encode_utf8_all (take n (chars bs)) ++ rest =
-    sym (encodes-chars bs u) ∙ ap encode_utf8_all (sym (take-append-drop n (chars bs))) ∙ encodes-append (take n (chars bs)) (drop n (chars bs)) in
+    sym (encodes-chars bs u) ∙ ap encode_utf8_all (sym (take-append-drop n (chars bs)))
+    ∙ encodes-append (take n (chars bs)) (drop n (chars bs)) in
     sym (chars_from_encodes (drop n (chars bs)) rest (after_text (take n (chars bs)) rest (subst IsUtf8 split u)) refl)

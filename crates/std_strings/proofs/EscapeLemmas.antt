@@ -1,5 +1,28 @@
 -- Escaping again leaves entities alone.
-use Rattle.std.proofs.Common.{◌≡◌, ℕ, true, ◌&&◌, ◌⊎◌, List, [], ◌∷◌, ◌++◌, None, Some, length, eqb, refl, sym, ap, ◌∙◌, arith, unwrap_or, inl, inr, ⊎_elim}
+use Rattle.std.proofs.Common.{
+  ◌≡◌,
+  ℕ,
+  true,
+  ◌&&◌,
+  ◌⊎◌,
+  List,
+  [],
+  ◌∷◌,
+  ◌++◌,
+  None,
+  Some,
+  length,
+  eqb,
+  refl,
+  sym,
+  ap,
+  ◌∙◌,
+  arith,
+  unwrap_or,
+  inl,
+  inr,
+  ⊎_elim,
+}
 use Rattle.std.proofs.lemmas.Bool.{cases_Bool, cond-true, cond-false, lt-ltb}
 use Rattle.std.specs.Prelude.{codes, if◌then◌else◌}
 use Rattle.std_strings.specs.meaning.Escape.{entity, escaped, escaped_once, goes_on_as_entity, needed_entity}
@@ -18,7 +41,8 @@ gt_stays : (rest : List ℕ) → escaped_once (codes "&gt;" ++ rest) ≡ codes "
 gt_stays rest = stays (103 ∷ 116 ∷ 59 ∷ rest) (ap (λ b. b && true) (lt-ltb 2 (length (103 ∷ 116 ∷ 59 ∷ rest)) (omega arith)))
 
 quot_stays : (rest : List ℕ) → escaped_once (codes "&quot;" ++ rest) ≡ codes "&quot;" ++ escaped_once rest
-quot_stays rest = stays (113 ∷ 117 ∷ 111 ∷ 116 ∷ 59 ∷ rest) (ap (λ b. b && true) (lt-ltb 4 (length (113 ∷ 117 ∷ 111 ∷ 116 ∷ 59 ∷ rest)) (omega arith)))
+quot_stays rest = stays (113 ∷ 117 ∷ 111 ∷ 116 ∷ 59 ∷ rest)
+    (ap (λ b. b && true) (lt-ltb 4 (length (113 ∷ 117 ∷ 111 ∷ 116 ∷ 59 ∷ rest)) (omega arith)))
 
 quote_stays : (rest : List ℕ) → escaped_once (codes "&#39;" ++ rest) ≡ codes "&#39;" ++ escaped_once rest
 quote_stays rest = stays (35 ∷ 51 ∷ 57 ∷ 59 ∷ rest) (ap (λ b. b && true) (lt-ltb 2 (length (51 ∷ 57 ∷ 59 ∷ rest)) (omega arith)))
@@ -37,7 +61,12 @@ entity_stays b = ⊎_elim
     (λ no_3. ⊎_elim
     (λ is. inr (codes "&quot;", cond-false _ _ _ no_1 ∙ cond-false _ _ _ no_2 ∙ cond-false _ _ _ no_3 ∙ cond-true _ _ _ is, quot_stays))
     (λ no_4. ⊎_elim
-    (λ is. inr (codes "&#39;", cond-false _ _ _ no_1 ∙ cond-false _ _ _ no_2 ∙ cond-false _ _ _ no_3 ∙ cond-false _ _ _ no_4 ∙ cond-true _ _ _ is, quote_stays))
+    (λ is. inr (
+      codes "&#39;",
+      cond-false _ _ _ no_1 ∙ cond-false _ _ _ no_2 ∙ cond-false _ _ _ no_3 ∙ cond-false _ _ _ no_4
+          ∙ cond-true _ _ _ is,
+      quote_stays,
+    ))
     (λ no_5. inl (cond-false _ _ _ no_1 ∙ cond-false _ _ _ no_2 ∙ cond-false _ _ _ no_3 ∙ cond-false _ _ _ no_4 ∙ cond-false _ _ _ no_5))
     (cases_Bool (eqb b 39)))
     (cases_Bool (eqb b 34)))

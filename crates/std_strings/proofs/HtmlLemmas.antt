@@ -1,5 +1,32 @@
 -- Bytes escaped one by one.
-use Rattle.std.proofs.Common.{◌≡◌, ℕ, ◌+◌, ◌-◌, ◌<◌, ◌≤◌, List, [], ◌∷◌, ◌++◌, None, Some, length, take, drop, get_or, sym, ap, ◌∙◌, append_assoc, append-nil, arith, eqb, unwrap_or, ⊎_elim, ◌&&◌}
+use Rattle.std.proofs.Common.{
+  ◌≡◌,
+  ℕ,
+  ◌+◌,
+  ◌-◌,
+  ◌<◌,
+  ◌≤◌,
+  List,
+  [],
+  ◌∷◌,
+  ◌++◌,
+  None,
+  Some,
+  length,
+  take,
+  drop,
+  get_or,
+  sym,
+  ap,
+  ◌∙◌,
+  append_assoc,
+  append-nil,
+  arith,
+  eqb,
+  unwrap_or,
+  ⊎_elim,
+  ◌&&◌,
+}
 use Rattle.std.specs.List.{slice_range}
 use Rattle.std.proofs.lemmas.Grind.{flat_map-append}
 use Rattle.std.proofs.lemmas.Bool.Decides.{nat_tests}
@@ -14,9 +41,11 @@ entity_is_ascii b e is = grind (arith, nat_tests)
 -- a text that is escaped up to a place, and up to the next
 escaped_more : (bs : List ℕ) (at : ℕ) → at < length bs → escaped (take (at + 1) bs) ≡ escaped (take at bs) ++ escaped_byte (get_or bs at 0)
 escaped_more bs at within =
-    ap escaped (take_more bs at 0 within) ∙ flat_map-append escaped_byte (take at bs) (get_or bs at 0 ∷ []) ∙ ap (λ l. escaped (take at bs) ++ l) (append-nil _)
+    ap escaped (take_more bs at 0 within) ∙ flat_map-append escaped_byte (take at bs) (get_or bs at 0 ∷ [])
+    ∙ ap (λ l. escaped (take at bs) ++ l) (append-nil _)
 
-module _ (bs out : List ℕ) (kept at : ℕ) (order : kept ≤ at) (within : at < length bs) (held : out ++ slice_range bs kept at ≡ escaped (take at bs)) where
+module _ (bs out : List ℕ) (kept at : ℕ) (order : kept ≤ at) (within : at < length bs)
+    (held : out ++ slice_range bs kept at ≡ escaped (take at bs)) where
   pub kept_more : None ≡ entity (get_or bs at 0) → out ++ slice_range bs kept (at + 1) ≡ escaped (take (at + 1) bs)
   kept_more none =
       ap (λ l. out ++ l) (between_more bs kept at 0 order within)
@@ -25,7 +54,8 @@ module _ (bs out : List ℕ) (kept at : ℕ) (order : kept ≤ at) (within : at 
       ∙ ap (λ o. escaped (take at bs) ++ unwrap_or o (get_or bs at 0 ∷ [])) none
       ∙ sym (escaped_more bs at within)
 
-  pub entity_more : (e : List ℕ) → Some e ≡ entity (get_or bs at 0) → ((out ++ slice_range bs kept at) ++ e) ++ slice_range bs (at + 1) (at + 1) ≡ escaped (take (at + 1) bs)
+  pub entity_more : (e : List ℕ) → Some e ≡ entity (get_or bs at 0) → ((out ++ slice_range bs kept at) ++ e)
+      ++ slice_range bs (at + 1) (at + 1) ≡ escaped (take (at + 1) bs)
   entity_more e some =
       let none : at + 1 - (at + 1) ≡ 0 = omega arith in
       ap (λ n. ((out ++ slice_range bs kept at) ++ e) ++ take n (drop (at + 1) bs)) none
@@ -44,10 +74,12 @@ needed_is_ascii b others e is = ⊎_elim
 module _ (bs out whole : List ℕ) (kept at : ℕ) (order : kept ≤ at) (within : at < length bs)
     (held : out ++ (slice_range bs kept at ++ escaped_once (drop at bs)) ≡ whole) where
   -- what is left, by its first byte
-  once_step : escaped_once (drop at bs) ≡ unwrap_or (needed_entity (get_or bs at 0) (drop (at + 1) bs)) (get_or bs at 0 ∷ []) ++ escaped_once (drop (at + 1) bs)
+  once_step : escaped_once (drop at bs) ≡ unwrap_or (needed_entity (get_or bs at 0) (drop (at + 1) bs)) (get_or bs at 0 ∷ [])
+      ++ escaped_once (drop (at + 1) bs)
   once_step = ap escaped_once (drop_more bs at 0 within)
 
-  pub once_kept : None ≡ needed_entity (get_or bs at 0) (drop (at + 1) bs) → out ++ (slice_range bs kept (at + 1) ++ escaped_once (drop (at + 1) bs)) ≡ whole
+  pub once_kept : None ≡ needed_entity (get_or bs at 0) (drop (at + 1) bs) → out
+      ++ (slice_range bs kept (at + 1) ++ escaped_once (drop (at + 1) bs)) ≡ whole
   once_kept none =
       let rest = escaped_once (drop (at + 1) bs) in
       ap (λ l. out ++ (l ++ rest)) (between_more bs kept at 0 order within)

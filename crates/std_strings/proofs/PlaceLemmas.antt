@@ -1,5 +1,29 @@
 -- Places of a needle in a text, where the text may be cut.
-use Rattle.std.proofs.Common.{◌≡◌, ℕ, zero, suc, ◌+◌, ◌-◌, ◌<◌, ◌≤◌, List, [], ◌∷◌, ◌++◌, Some, length, drop, sym, ap, subst, ◌∙◌, arith, append_assoc, get_or, ⊎_elim}
+use Rattle.std.proofs.Common.{
+  ◌≡◌,
+  ℕ,
+  zero,
+  suc,
+  ◌+◌,
+  ◌-◌,
+  ◌<◌,
+  ◌≤◌,
+  List,
+  [],
+  ◌∷◌,
+  ◌++◌,
+  Some,
+  length,
+  drop,
+  sym,
+  ap,
+  subst,
+  ◌∙◌,
+  arith,
+  append_assoc,
+  get_or,
+  ⊎_elim,
+}
 use Rattle.std.proofs.lemmas.Bool.{cases_Bool, cond-true, cond-false, cases_eq}
 use Rattle.std.specs.Char.{encode_utf8}
 use Rattle.std.specs.Str.{encode_utf8_all, IsUtf8, IsCharBoundary}
@@ -10,7 +34,8 @@ use Rattle.memchr.proofs.lemmas.MatchLemmas.{OccursAt-true, OccursAt-split, matc
 -- what follows a text in a text is text
 pub after_text : (cs ys : List ℕ) → IsUtf8 (encode_utf8_all cs ++ ys) → IsUtf8 ys
 after_text [] ys u = u
-after_text (c ∷ cs) ys u = after_text cs ys (IsUtf8-past_char _ (encode_utf8_all cs ++ ys) c u (append_assoc (encode_utf8 c) (encode_utf8_all cs) ys))
+after_text (c ∷ cs) ys u = after_text cs ys
+    (IsUtf8-past_char _ (encode_utf8_all cs ++ ys) c u (append_assoc (encode_utf8 c) (encode_utf8_all cs) ys))
 
 module _ (hay needle : List ℕ) (u : IsUtf8 hay) (v : IsUtf8 needle) where
   -- a needle that is not empty begins where the text may be cut
@@ -30,7 +55,8 @@ module _ (hay needle : List ℕ) (u : IsUtf8 hay) (v : IsUtf8 needle) where
       let fits = occurs.fits in
       let split : drop at hay ≡ needle ++ rest = OccursAt-split hay needle at occurs in
       let whole : IsUtf8 (needle ++ rest) = subst IsUtf8 split (IsUtf8-drop hay at u cut) in
-      IsCharBoundary-from_drop hay (at + length needle) (omega arith) (after_text v.0 rest (subst (λ n. IsUtf8 (n ++ rest)) (sym v.1.1) whole))
+      IsCharBoundary-from_drop hay (at + length needle) (omega arith)
+      (after_text v.0 rest (subst (λ n. IsUtf8 (n ++ rest)) (sym v.1.1) whole))
 
   -- the first place and the last place of a needle, empty or not, are where the text may be cut
   pub cut_at_first : (at : ℕ) → FindsNeedle hay needle 0 (Some at) → IsCharBoundary hay at
@@ -63,7 +89,8 @@ pub record IsFirstMatch (hay needle : List ℕ) (i at : ℕ) (rest : List ℕ) :
   pub others : rest ≡ matches hay needle (at + length needle)
 
 module _ (hay needle : List ℕ) (more : 0 < length needle) where
-  first_match_from : (n i at : ℕ) (rest : List ℕ) → i + n ≡ length hay + 1 → matches_from hay needle 0 i n ≡ at ∷ rest → IsFirstMatch hay needle i at rest
+  first_match_from : (n i at : ℕ) (rest : List ℕ) → i + n ≡ length hay + 1 → matches_from hay needle 0 i n ≡ at ∷ rest
+      → IsFirstMatch hay needle i at rest
   unfolding matches_from
   first_match_from zero i at rest fit e = absurd (cc)
   first_match_from (suc n) i at rest fit e = ⊎_elim
@@ -79,7 +106,9 @@ module _ (hay needle : List ℕ) (more : 0 < length needle) where
       record {
         low = omega arith;
         occurs = subst (OccursAt hay needle) here occurs;
-        others = sym those ∙ matches_from-skip hay needle (match_len needle - 1) (i + 1) n ∙ ap (λ k. matches_from hay needle 0 k (n - (match_len needle - 1))) place ∙ ap (matches_from hay needle 0 (at + length needle)) count;
+        others = sym those ∙ matches_from-skip hay needle (match_len needle - 1) (i + 1) n
+            ∙ ap (λ k. matches_from hay needle 0 k (n - (match_len needle - 1))) place
+            ∙ ap (matches_from hay needle 0 (at + length needle)) count;
       })
       (λ no.
       let later = first_match_from n (i + 1) at rest (omega arith) (sym (cond-false _ _ _ no) ∙ e) in

@@ -1,5 +1,40 @@
 -- A text that is written for a URL is read back.
-use Rattle.std.proofs.Common.{◌≡◌, ◌≢◌, ℕ, zero, suc, ◌+◌, ◌-◌, ◌<◌, ◌≤◌, Bool, true, false, cond, ◌&&◌, List, [], ◌∷◌, ◌++◌, length, map, take, drop, get_or, refl, sym, ap, ◌∙◌, arith, eqb, nat_le, append_assoc, append-nil, Some, length-drop}
+use Rattle.std.proofs.Common.{
+  ◌≡◌,
+  ◌≢◌,
+  ℕ,
+  zero,
+  suc,
+  ◌+◌,
+  ◌-◌,
+  ◌<◌,
+  ◌≤◌,
+  Bool,
+  true,
+  false,
+  cond,
+  ◌&&◌,
+  List,
+  [],
+  ◌∷◌,
+  ◌++◌,
+  length,
+  map,
+  take,
+  drop,
+  get_or,
+  refl,
+  sym,
+  ap,
+  ◌∙◌,
+  arith,
+  eqb,
+  nat_le,
+  append_assoc,
+  append-nil,
+  Some,
+  length-drop,
+}
 use Rattle.std.specs.Prelude.{slice_range}
 use Rattle.std.specs.Str.{IsUtf8}
 use Rattle.std.proofs.lemmas.Bool.{eqb-true}
@@ -34,12 +69,14 @@ occurs_one c text i h =
     rw (fits, drop-cons text i 0 h) (and_true (eqb (get_or text i 0) c))
 
 -- what follows a piece
-after_piece : (sep text : List ℕ) (len at : ℕ) (places : List ℕ) → flat_map (λ piece. sep ++ piece) (pieces_between len text at places) ≡ sep ++ join_by (λ piece. piece) sep (pieces_between len text at places)
+after_piece : (sep text : List ℕ) (len at : ℕ) (places : List ℕ) → flat_map (λ piece. sep ++ piece)
+    (pieces_between len text at places) ≡ sep ++ join_by (λ piece. piece) sep (pieces_between len text at places)
 after_piece sep text len at [] = append_assoc sep (drop at text) []
 after_piece sep text len at (p ∷ places) = append_assoc sep (slice_range text at p) _
 
 -- one more byte of a piece
-slice_more : (text : List ℕ) (from i : ℕ) → from ≤ i → i < length text → slice_range text from (i + 1) ≡ slice_range text from i ++ (get_or text i 0 ∷ [])
+slice_more : (text : List ℕ) (from i : ℕ) → from ≤ i → i < length text → slice_range text from (i + 1) ≡ slice_range text from i
+    ++ (get_or text i 0 ∷ [])
 slice_more text from i h small =
     let count : i + 1 - from ≡ suc (i - from) = omega arith in
     let place : from + (i - from) ≡ i = omega arith in
@@ -48,7 +85,8 @@ slice_more text from i h small =
     ∙ ap (λ x. slice_range text from i ++ (x ∷ [])) (get_or-drop from text (i - from) 0 ∙ ap (λ k. get_or text k 0) place)
 
 -- the byte at a place, swapped, and those after it
-swap_at : (c d : ℕ) (text : List ℕ) (i : ℕ) → i < length text → swap c d (get_or text i 0) ∷ map (swap c d) (drop (i + 1) text) ≡ map (swap c d) (drop i text)
+swap_at : (c d : ℕ) (text : List ℕ) (i : ℕ) → i < length text → swap c d (get_or text i 0)
+    ∷ map (swap c d) (drop (i + 1) text) ≡ map (swap c d) (drop i text)
 swap_at c d text i small =
     let next : i + 1 ≡ suc i = omega arith in
     rw (next, drop-cons text i 0 small) refl
@@ -58,13 +96,18 @@ empty_slice text i rest = let none : i - i ≡ 0 = omega arith in rw none refl
 
 -- what is joined from a place on
 abbrev Swapped : ℕ → ℕ → List ℕ → ℕ → ℕ → List ℕ → Type 0
-Swapped c d text i from places = join_by (λ piece. piece) (d ∷ []) (pieces_between 1 text from places) ≡ slice_range text from i ++ map (swap c d) (drop i text)
+Swapped c d text i from places = join_by (λ piece. piece) (d ∷ []) (pieces_between 1 text from places) ≡ slice_range text from i
+    ++ map (swap c d) (drop i text)
 
-one_more : (c d : ℕ) (text : List ℕ) (n i from : ℕ) → from ≤ i → i < length text → ((start : ℕ) → start ≤ i + 1 → Swapped c d text (i + 1) start (matches_from text (c ∷ []) 0 (i + 1) n)) → (b : Bool) → eqb (get_or text i 0) c ≡ b → Swapped c d text i from (cond b (i ∷ matches_from text (c ∷ []) 0 (i + 1) n) (matches_from text (c ∷ []) 0 (i + 1) n))
+one_more : (c d : ℕ) (text : List ℕ) (n i from : ℕ) → from ≤ i → i < length text
+    → ((start : ℕ) → start ≤ i + 1 → Swapped c d text (i + 1) start (matches_from text (c ∷ []) 0 (i + 1) n)) → (b : Bool)
+    → eqb (get_or text i 0) c ≡ b → Swapped c d text i from
+    (cond b (i ∷ matches_from text (c ∷ []) 0 (i + 1) n) (matches_from text (c ∷ []) 0 (i + 1) n))
 one_more c d text n i from h small again true t =
     let rest = again (i + 1) (omega arith) ∙ empty_slice text (i + 1) (map (swap c d) (drop (i + 1) text)) in
     let here : d ∷ map (swap c d) (drop (i + 1) text) ≡ map (swap c d) (drop i text) = rw t at (swap_at c d text i small) in
-    ap (λ t. slice_range text from i ++ t) (after_piece (d ∷ []) text 1 (i + 1) (matches_from text (c ∷ []) 0 (i + 1) n) ∙ ap (λ t. d ∷ t) rest ∙ here)
+    ap (λ t. slice_range text from i ++ t) (after_piece (d ∷ []) text 1 (i + 1) (matches_from text (c ∷ []) 0 (i + 1) n)
+    ∙ ap (λ t. d ∷ t) rest ∙ here)
 one_more c d text n i from h small again false t =
     let here : get_or text i 0 ∷ map (swap c d) (drop (i + 1) text) ≡ map (swap c d) (drop i text) = rw t at (swap_at c d text i small) in
     again from (omega arith)
@@ -72,7 +115,9 @@ one_more c d text n i from h small again false t =
     ∙ append_assoc (slice_range text from i) (get_or text i 0 ∷ []) (map (swap c d) (drop (i + 1) text))
     ∙ ap (λ t. slice_range text from i ++ t) here
 
-swapped_from : (c d : ℕ) (text : List ℕ) (n i from : ℕ) → from ≤ i → i + n ≡ length text → join_by (λ piece. piece) (d ∷ []) (pieces_between 1 text from (matches_from text (c ∷ []) 0 i (suc n))) ≡ slice_range text from i ++ map (swap c d) (drop i text)
+swapped_from : (c d : ℕ) (text : List ℕ) (n i from : ℕ) → from ≤ i → i + n ≡ length text
+    → join_by (λ piece. piece) (d ∷ []) (pieces_between 1 text from (matches_from text (c ∷ []) 0 i (suc n))) ≡ slice_range text from i
+    ++ map (swap c d) (drop i text)
 unfolding matches_from
 swapped_from c d text zero i from h e =
     let fits : nat_le (i + 1) (length text) ≡ false = grind (arith, nat_tests) in
@@ -113,8 +158,15 @@ no_plus : (text : List ℕ) → All (λ b. b ≢ 43) (percent_encode ESCAPED tex
 no_plus text = All-percent_encode (λ b. b ≢ 43) ESCAPED text kept (λ b escape same. grind (arith, escape))
   where
     kept : (b : ℕ) → should_percent_encode ESCAPED b ≡ false → b ≢ 43
-    kept b e same = let yes = escaped_from_inside ESCAPED 43 plus_is_escaped in let no_escape : should_percent_encode ESCAPED 43 ≡ false = rw (← same) e in cc
+    kept b e same = let yes = escaped_from_inside ESCAPED 43 plus_is_escaped in let no_escape : should_percent_encode ESCAPED 43 ≡ false =
+        rw (← same) e in cc
 
 pub read_back : (text : List ℕ) → IsUtf8 text → All IsByte text → url_decoded (url_encoded text) ≡ Some text
 read_back text utf8 bytes =
-    rw (swapped 32 43 (percent_encode ESCAPED text), swapped 43 32 (map (swap 32 43) (percent_encode ESCAPED text)), back (percent_encode ESCAPED text) (no_plus text), round_trip ESCAPED text percent_is_escaped bytes, is_utf8-from_IsUtf8 text utf8) refl
+    rw (
+      swapped 32 43 (percent_encode ESCAPED text),
+      swapped 43 32 (map (swap 32 43) (percent_encode ESCAPED text)),
+      back (percent_encode ESCAPED text) (no_plus text),
+      round_trip ESCAPED text percent_is_escaped bytes,
+      is_utf8-from_IsUtf8 text utf8,
+    ) refl

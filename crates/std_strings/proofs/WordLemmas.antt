@@ -1,5 +1,37 @@
 -- Words and pieces of a text, one by one.
-use Rattle.std.proofs.Common.{◌≡◌, ◌≢◌, ℕ, ◌+◌, ◌<◌, Bool, true, false, not, ◌&&◌, cond, List, [], ◌∷◌, ◌++◌, map, length, take, refl, sym, ap, subst, ◌∙◌, append_assoc, append-nil, arith, get_or, eqb, ltb, ⊎_elim, length-append}
+use Rattle.std.proofs.Common.{
+  ◌≡◌,
+  ◌≢◌,
+  ℕ,
+  ◌+◌,
+  ◌<◌,
+  Bool,
+  true,
+  false,
+  not,
+  ◌&&◌,
+  cond,
+  List,
+  [],
+  ◌∷◌,
+  ◌++◌,
+  map,
+  length,
+  take,
+  refl,
+  sym,
+  ap,
+  subst,
+  ◌∙◌,
+  append_assoc,
+  append-nil,
+  arith,
+  get_or,
+  eqb,
+  ltb,
+  ⊎_elim,
+  length-append,
+}
 use Rattle.std.proofs.lemmas.Bool.{cond-true, cond-false, cases_eq, ne_eqb, lt-ltb}
 use Rattle.std.proofs.lemmas.List.{map-append, nil_from_length, take_more}
 use Rattle.std.specs.List.{take-map}
@@ -42,7 +74,8 @@ none_in_all (c ∷ cs) none = All-cons (λ c. is_whitespace c ≡ false) c cs no
 kept : (w : List ℕ) (ws : List (List ℕ)) → 0 < length w → filter is_word (w ∷ ws) ≡ w ∷ filter is_word ws
 kept w ws more = cond-true _ _ _ (lt-ltb 0 (length w) more)
 
-word_before_white : (w : List ℕ) (c : ℕ) (cs : List ℕ) → 0 < length w → NonePass is_whitespace w → is_whitespace c ≡ true → words_of (w ++ c ∷ cs) ≡ w ∷ words_of (c ∷ cs)
+word_before_white : (w : List ℕ) (c : ℕ) (cs : List ℕ) → 0 < length w → NonePass is_whitespace w → is_whitespace c ≡ true
+    → words_of (w ++ c ∷ cs) ≡ w ∷ words_of (c ∷ cs)
 word_before_white w c cs more none e =
     ap (filter is_word) (slice_split_at is_whitespace w c cs (none_in_all w none) e)
     ∙ kept w (slice_split is_whitespace cs) more
@@ -58,11 +91,13 @@ some_characters (c ∷ cs) bs e more = omega arith
 
 pub words_of_white : (bs : List ℕ) → IsUtf8 bs → NoCharPasses is_not_whitespace bs → words bs ≡ []
 words_of_white bs u none =
-    ap (map encode_utf8_all) (ap words_of (sym (chars_from_encodes none.0 bs u none.1)) ∙ ap words_of (sym (append-nil none.0)) ∙ words_after_gap none.0 [] none.2)
+    ap (map encode_utf8_all) (ap words_of (sym (chars_from_encodes none.0 bs u none.1)) ∙ ap words_of (sym (append-nil none.0))
+    ∙ words_after_gap none.0 [] none.2)
 
 -- what a call of `next` says about a word
 pub words_step : (bs w rest : List ℕ) → IsUtf8 bs
-    → (gap : List ℕ) × (bs ≡ gap ++ (w ++ rest)) × (0 < length w) × NoCharPasses is_not_whitespace gap × NoCharPasses is_whitespace w × ((more : List ℕ) × EmptyOrStartsWithPassing is_whitespace rest more)
+    → (gap : List ℕ) × (bs ≡ gap ++ (w ++ rest)) × (0 < length w) × NoCharPasses is_not_whitespace gap × NoCharPasses is_whitespace w
+    × ((more : List ℕ) × EmptyOrStartsWithPassing is_whitespace rest more)
     → IsUtf8 rest × (words bs ≡ w ∷ words rest)
 words_step bs w rest u item =
     let gs = item.3.0 in
@@ -109,10 +144,12 @@ end_kept (q ∷ ps) p more =
 module _ {X : Type 0} (f : X → List ℕ) (xs : List X) (at kept : ℕ) (d : X) (within : at < length xs) where
   one_more : take (at + 1) (map f xs) ≡ take at (map f xs) ++ f (get_or xs at d) ∷ []
   one_more =
-      take-map f (at + 1) xs ∙ ap (map f) (take_more xs at d within) ∙ map-append f (take at xs) (get_or xs at d ∷ []) ∙ ap (λ l. l ++ f (get_or xs at d) ∷ []) (sym (take-map f at xs))
+      take-map f (at + 1) xs ∙ ap (map f) (take_more xs at d within) ∙ map-append f (take at xs) (get_or xs at d ∷ [])
+      ∙ ap (λ l. l ++ f (get_or xs at d) ∷ []) (sym (take-map f at xs))
 
   -- the pieces up to a place, with one more that is empty, and with one more that is not
-  pub still_kept : length (f (get_or xs at d)) ≡ 0 → take kept (map f xs) ≡ without_empty_end (take at (map f xs)) → take kept (map f xs) ≡ without_empty_end (take (at + 1) (map f xs))
+  pub still_kept : length (f (get_or xs at d)) ≡ 0 → take kept (map f xs) ≡ without_empty_end (take at (map f xs))
+      → take kept (map f xs) ≡ without_empty_end (take (at + 1) (map f xs))
   still_kept none held = held ∙ sym (ap without_empty_end one_more ∙ end_empty (take at (map f xs)) _ none)
 
   pub all_kept : length (f (get_or xs at d)) ≢ 0 → take (at + 1) (map f xs) ≡ without_empty_end (take (at + 1) (map f xs))

@@ -5,7 +5,19 @@ use Rattle.liquid_error.specs.meaning.Refusal.{Refusal, ok_then}
 use Rattle.liquid_runtime.specs.meaning.View.{View}
 use Rattle.liquid_runtime.specs.meaning.Written.{with_written}
 use Rattle.liquid_plugins.specs.meaning.Chain.{FilterMeaning}
-use Rattle.liquid_plugins.specs.meaning.Nodes.{NodeShape, text_node, chain_node, tag_node, block_node, Nodes, no_nodes, node, Parts, no_parts, part}
+use Rattle.liquid_plugins.specs.meaning.Nodes.{
+  NodeShape,
+  text_node,
+  chain_node,
+  tag_node,
+  block_node,
+  Nodes,
+  no_nodes,
+  node,
+  Parts,
+  no_parts,
+  part,
+}
 use Rattle.liquid_plugins.specs.meaning.Turns.{TurnShape, text_turn, body_turn, partial_turn, capture_turn, end_turn, NodeMeaning}
 use Rattle.liquid_template.specs.meaning.Actions.{and_then, asks, part_at, silent, under, unless_interrupted}
 use Rattle.liquid_template.specs.meaning.Nodes.{Setting, answered, performed, played, run_node, run_nodes, run_parts, started, turns}

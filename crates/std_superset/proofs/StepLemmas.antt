@@ -1,5 +1,6 @@
 -- One element more is read in both languages.
-use Rattle.std.proofs.Common.{◌≡◌, ℕ, Bool, true, false, List, [], ◌∷◌, ◌++◌, ◌+◌, codes, length, map, Option, Some, None, option_map, Result, Ok, Err, refl, sym, ap, ◌∙◌}
+use Rattle.std.proofs.Common.{◌≡◌, ℕ, Bool, true, false, List, [], ◌∷◌, ◌++◌, ◌+◌, codes, length, map, Option, Some, None, option_map}
+use Rattle.std.proofs.Common.{Result, Ok, Err, refl, sym, ap, ◌∙◌}
 use Rattle.std.specs.FinMap.{get}
 use Rattle.std.specs.List.{list_any}
 use Rattle.std.specs.Prelude.{bytes_eq, if◌then◌else◌, nat_lt}
@@ -12,7 +13,9 @@ use Rattle.liquid_grammar.specs.meaning.Tokens as token
 use Rattle.liquid_plugins.specs.meaning.Nodes.{NodeShape, text_node, chain_node, tag_node}
 use Rattle.liquid_parser.specs.meaning.Handed.{Tokens, expect_nothing, handed, place_in}
 use Rattle.liquid_parser.specs.meaning.Lang.{Block, Filters, Lang, parts}
-use Rattle.liquid_parser.specs.meaning.Reading.{Open, State, among, inside, begun, block_limit, block_with, chain_read, checked, closed, element_read, entered, escape_read, expression_read, finished, level_after, name_place, node_added, outer_read, parted, placed_at, refused_at, step, tag_given, tag_read}
+use Rattle.liquid_parser.specs.meaning.Reading.{Open, State, among, inside, begun, block_limit, block_with, chain_read, checked, closed}
+use Rattle.liquid_parser.specs.meaning.Reading.{element_read, entered, escape_read, expression_read, finished, level_after, name_place}
+use Rattle.liquid_parser.specs.meaning.Reading.{node_added, outer_read, parted, placed_at, refused_at, step, tag_given, tag_read}
 use Rattle.liquid_parser.proofs.DispatchLemmas.{block_outer, divider_read, end_read, other_read, tag_outer, unknown_outer}
 use Rattle.liquid_tags.specs.declared.blocks.BlockShape.{BlockShape}
 use Rattle.liquid_tags.specs.declared.block_plugins.Blocks.{Blocks}
@@ -34,7 +37,8 @@ use Rattle.liquid_std.specs.meaning.Languages.{tags_and_blocks}
 use Rattle.liquid_std.specs.meaning.TagPlugins as standard_tag
 use Rattle.std_superset.specs.meaning.Images.{block_image, node_image}
 use Rattle.std_superset.proofs.NameLemmas.{block_kept as own_block, block_named, standard_block, tag_free, tag_kept, tag_named}
-use Rattle.std_superset.proofs.TokenLemmas.{Planned, if_plan, for_plan, raw_plan, begins, divides, kind_of, made_from, node_of, plan, plan_image, same_value}
+use Rattle.std_superset.proofs.TokenLemmas.{Planned, if_plan, for_plan, raw_plan, begins, divides, kind_of, made_from, node_of, plan}
+use Rattle.std_superset.proofs.TokenLemmas.{plan_image, same_value}
 use Rattle.std_superset.proofs.TreeLemmas.{added, block_kept, parted as parts_added}
 
 -- a block of the library that is open: its plan, whether an `else` has closed it, the place of its name, the nodes before

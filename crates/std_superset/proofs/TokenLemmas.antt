@@ -1,5 +1,29 @@
 -- What the tokens of the library's blocks make in the standard language.
-use Rattle.std.proofs.Common.{◌≡◌, ℕ, Bool, true, false, cond, List, [], ◌∷◌, ◌++◌, codes, map, Option, Some, None, option_map, Result, Ok, Err, refl, sym, ap, ◌∙◌}
+use Rattle.std.proofs.Common.{
+  ◌≡◌,
+  ℕ,
+  Bool,
+  true,
+  false,
+  cond,
+  List,
+  [],
+  ◌∷◌,
+  ◌++◌,
+  codes,
+  map,
+  Option,
+  Some,
+  None,
+  option_map,
+  Result,
+  Ok,
+  Err,
+  refl,
+  sym,
+  ap,
+  ◌∙◌,
+}
 use Rattle.std.specs.Prelude.{◌||◌}
 use Rattle.std.specs.Str.{bytes_eq}
 use Rattle.std.proofs.lemmas.List.{map-append}
@@ -27,7 +51,15 @@ use Rattle.liquid_tags.specs.meaning.ConditionsGiven.{comparison_of}
 use Rattle.std_conditions.specs.declared.condition.ConditionShape as standard
 use Rattle.std_conditions.specs.declared.condition.Operator.TheVariants as operator
 use Rattle.std_conditions.specs.declared.condition.TestShape.TheVariants as test
-use Rattle.std_conditions.specs.meaning.ConditionsGiven.{after_test, after_value, condition_given, from_second, from_value, joined_by, operator_of}
+use Rattle.std_conditions.specs.meaning.ConditionsGiven.{
+  after_test,
+  after_value,
+  condition_given,
+  from_second,
+  from_value,
+  joined_by,
+  operator_of,
+}
 use Rattle.std_loops.specs.declared.loops.LoopShape.{LoopShape}
 use Rattle.std_loops.specs.declared.options.LoopBlock.TheVariants as loop
 use Rattle.std_loops.specs.declared.options.OptionsShape.{OptionsShape}

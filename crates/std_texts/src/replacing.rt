@@ -1,9 +1,12 @@
 //! Filters that replace or remove parts of a text.
-ghost use Rattle.std.specs.Prelude.{map};
+ghost use Rattle.std.specs.Prelude.{map, Ok};
 ghost use Rattle.liquid_error.specs.meaning.Told.{Gives};
 ghost use Rattle.liquid_value.specs.meaning.Cow.{cow_view};
+ghost use Rattle.liquid_value.specs.meaning.Render.{render};
 ghost use Rattle.liquid_value.specs.meaning.View.{view as tree_of};
+ghost use Rattle.std_strings.specs.meaning.Replace.{replaced, replaced_first, replaced_last};
 ghost use Rattle.std_texts.specs.meaning.Replacing.{remove, remove_first, remove_last, replace, replace_first, replace_last};
+ghost use Rattle.std_texts.specs.meaning.Written.{written};
 
 use liquid_error::Error;
 use liquid_scalar::ScalarOf;
@@ -17,18 +20,10 @@ pub fn replace(alloc: Global, input: &Value, arguments: &[ValueCow<'_>]) -> Resu
     ensures { Gives tree_of result (replace (tree_of input.now) (map cow_view arguments.now)) }
 {
     match arguments {
-        [search] => {
-            let text = input.to_kstr(alloc)?;
-            let search = search.as_view().to_kstr(alloc)?;
-            let replaced = strings::replace(alloc, text.as_str(), search.as_str(), "")?;
-            Ok(Value::Scalar(ScalarOf::Str(replaced)))
-        }
+        [search] => replace_each(alloc, input, search, ""),
         [search, by] => {
-            let text = input.to_kstr(alloc)?;
-            let search = search.as_view().to_kstr(alloc)?;
             let by = by.as_view().to_kstr(alloc)?;
-            let replaced = strings::replace(alloc, text.as_str(), search.as_str(), by.as_str())?;
-            Ok(Value::Scalar(ScalarOf::Str(replaced)))
+            replace_each(alloc, input, search, by.as_str())
         }
         _ => Err(unexpected_arguments(alloc)),
     }
@@ -43,23 +38,10 @@ pub fn replace_first(
     ensures { Gives tree_of result (replace_first (tree_of input.now) (map cow_view arguments.now)) }
 {
     match arguments {
-        [search] => {
-            let text = input.to_kstr(alloc)?;
-            let search = search.as_view().to_kstr(alloc)?;
-            let replaced = strings::replace_first(alloc, text.as_str(), search.as_str(), "")?;
-            Ok(Value::Scalar(ScalarOf::Str(replaced)))
-        }
+        [search] => replace_at_first(alloc, input, search, ""),
         [search, by] => {
-            let text = input.to_kstr(alloc)?;
-            let search = search.as_view().to_kstr(alloc)?;
             let by = by.as_view().to_kstr(alloc)?;
-            let replaced = strings::replace_first(
-                alloc,
-                text.as_str(),
-                search.as_str(),
-                by.as_str(),
-            )?;
-            Ok(Value::Scalar(ScalarOf::Str(replaced)))
+            replace_at_first(alloc, input, search, by.as_str())
         }
         _ => Err(unexpected_arguments(alloc)),
     }
@@ -75,16 +57,8 @@ pub fn replace_last(
 {
     match arguments {
         [search, by] => {
-            let text = input.to_kstr(alloc)?;
-            let search = search.as_view().to_kstr(alloc)?;
             let by = by.as_view().to_kstr(alloc)?;
-            let replaced = strings::replace_last(
-                alloc,
-                text.as_str(),
-                search.as_str(),
-                by.as_str(),
-            )?;
-            Ok(Value::Scalar(ScalarOf::Str(replaced)))
+            replace_at_last(alloc, input, search, by.as_str())
         }
         _ => Err(unexpected_arguments(alloc)),
     }
@@ -95,12 +69,7 @@ pub fn remove(alloc: Global, input: &Value, arguments: &[ValueCow<'_>]) -> Resul
     ensures { Gives tree_of result (remove (tree_of input.now) (map cow_view arguments.now)) }
 {
     match arguments {
-        [search] => {
-            let text = input.to_kstr(alloc)?;
-            let search = search.as_view().to_kstr(alloc)?;
-            let rest = strings::replace(alloc, text.as_str(), search.as_str(), "")?;
-            Ok(Value::Scalar(ScalarOf::Str(rest)))
-        }
+        [part] => replace_each(alloc, input, part, ""),
         _ => Err(unexpected_arguments(alloc)),
     }
 }
@@ -114,12 +83,7 @@ pub fn remove_first(
     ensures { Gives tree_of result (remove_first (tree_of input.now) (map cow_view arguments.now)) }
 {
     match arguments {
-        [search] => {
-            let text = input.to_kstr(alloc)?;
-            let search = search.as_view().to_kstr(alloc)?;
-            let rest = strings::replace_first(alloc, text.as_str(), search.as_str(), "")?;
-            Ok(Value::Scalar(ScalarOf::Str(rest)))
-        }
+        [part] => replace_at_first(alloc, input, part, ""),
         _ => Err(unexpected_arguments(alloc)),
     }
 }
@@ -129,12 +93,52 @@ pub fn remove_last(alloc: Global, input: &Value, arguments: &[ValueCow<'_>]) -> 
     ensures { Gives tree_of result (remove_last (tree_of input.now) (map cow_view arguments.now)) }
 {
     match arguments {
-        [search] => {
-            let text = input.to_kstr(alloc)?;
-            let search = search.as_view().to_kstr(alloc)?;
-            let rest = strings::replace_last(alloc, text.as_str(), search.as_str(), "")?;
-            Ok(Value::Scalar(ScalarOf::Str(rest)))
-        }
+        [part] => replace_at_last(alloc, input, part, ""),
         _ => Err(unexpected_arguments(alloc)),
     }
+}
+
+/// Returns the text with `by` in each place of what is searched for.
+fn replace_each(
+    alloc: Global,
+    input: &Value,
+    search: &ValueCow<'_>,
+    by: &str,
+) -> Result<Value, Error>
+    ensures { Gives tree_of result (Ok (written (replaced (render (cow_view search.now)) by.now (render (tree_of input.now))))) }
+{
+    let text = input.to_kstr(alloc)?;
+    let search = search.as_view().to_kstr(alloc)?;
+    let replaced = strings::replace(alloc, text.as_str(), search.as_str(), by)?;
+    Ok(Value::Scalar(ScalarOf::Str(replaced)))
+}
+
+/// Returns the text with `by` in the first place of what is searched for.
+fn replace_at_first(
+    alloc: Global,
+    input: &Value,
+    search: &ValueCow<'_>,
+    by: &str,
+) -> Result<Value, Error>
+    ensures { Gives tree_of result (Ok (written (replaced_first (render (cow_view search.now)) by.now (render (tree_of input.now))))) }
+{
+    let text = input.to_kstr(alloc)?;
+    let search = search.as_view().to_kstr(alloc)?;
+    let replaced = strings::replace_first(alloc, text.as_str(), search.as_str(), by)?;
+    Ok(Value::Scalar(ScalarOf::Str(replaced)))
+}
+
+/// Returns the text with `by` in the last place of what is searched for.
+fn replace_at_last(
+    alloc: Global,
+    input: &Value,
+    search: &ValueCow<'_>,
+    by: &str,
+) -> Result<Value, Error>
+    ensures { Gives tree_of result (Ok (written (replaced_last (render (cow_view search.now)) by.now (render (tree_of input.now))))) }
+{
+    let text = input.to_kstr(alloc)?;
+    let search = search.as_view().to_kstr(alloc)?;
+    let replaced = strings::replace_last(alloc, text.as_str(), search.as_str(), by)?;
+    Ok(Value::Scalar(ScalarOf::Str(replaced)))
 }

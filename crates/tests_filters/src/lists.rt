@@ -1,7 +1,6 @@
 //! Rows of the filters on lists.
-use crate::answers::{source_of, values_of};
+use crate::answers;
 use liquid_error::Error;
-use liquid_json::to_value;
 use liquid_value::{Value, ValueCow};
 use std::alloc::Global;
 use std::test::Fail;
@@ -59,10 +58,7 @@ fn answered(
 
 /// Returns `true` if a filter returns what its row says.
 fn is_answered(alloc: Global, row: &Line) -> Result<bool, Fail> {
-    let input = to_value(alloc, row.member(1)?)?;
-    let arguments = values_of(alloc, row.list(2)?.as_slice())?;
-    let answer = answered(alloc, row.text(0)?, &input, arguments.as_slice());
-    Ok(source_of(alloc, answer)?.as_str() == row.text(3)?)
+    answers::is_answered(alloc, row, answered)
 }
 
 #[test]

@@ -1,39 +1,38 @@
 //! Rows of the filters on numbers.
-use crate::answers::value_of;
+use crate::answers;
 use liquid_error::Error;
-use liquid_value::render::ValueRender;
-use liquid_value::{State, Value, ValueCow};
+use liquid_value::{Value, ValueCow};
 use std::alloc::Global;
 use std::test::Fail;
 use std_numbers::arithmetic::{at_least, at_most, divided_by, minus, modulo, plus, times};
 use std_numbers::single::{abs, ceil, floor, round};
 use tests_lines::{Line, rows_hold};
 
-/// A filter, its input, its argument, if any, and the text that it returns.
-const ROWS: &str = r#"["plus", "41", "1", "42"]
-["plus", "9223372036854775807", "1", "liquid: Number past its limit\n"]
-["minus", " 7 ", "x", "liquid: Whole number expected\n  with:\n    found=\"x\"\n"]
-["minus", "0", "-5", "5"]
-["times", "-38", "9223372036854775807", "liquid: Number past its limit\n"]
-["times", "6", "-7", "-42"]
-["divided_by", "-7", "2", "-4"]
-["divided_by", "7", "-2", "-4"]
-["divided_by", "-9223372036854775808", "-1", "liquid: Number past its limit\n"]
-["divided_by", "1", "0", "liquid: Divided by zero\n"]
-["modulo", "-7", "2", "1"]
-["modulo", "7", "-2", "-1"]
-["modulo", "-9223372036854775808", "-1", "0"]
-["at_least", "4", "5", "5"]
-["at_most", "4", "5", "4"]
-["at_most", "4", "", "liquid: Unexpected arguments\n"]
-["abs", "-17", "", "17"]
-["ceil", "8", "", "8"]
-["floor", "8", "", "8"]
-["round", "-15", "-1", "-20"]
-["round", "14", "-1", "10"]
-["round", "9223372036854775807", "-19", "liquid: Number past its limit\n"]
-["round", "5", "-20", "0"]
-["round", "5", "2", "5"]"#;
+/// A filter, its input, its arguments, and the source of what it returns.
+const ROWS: &str = r#"["plus", "41", ["1"], "42"]
+["plus", "9223372036854775807", ["1"], "liquid: Number past its limit\n"]
+["minus", " 7 ", ["x"], "liquid: Whole number expected\n  with:\n    found=\"x\"\n"]
+["minus", "0", ["-5"], "5"]
+["times", "-38", ["9223372036854775807"], "liquid: Number past its limit\n"]
+["times", "6", ["-7"], "-42"]
+["divided_by", "-7", ["2"], "-4"]
+["divided_by", "7", ["-2"], "-4"]
+["divided_by", "-9223372036854775808", ["-1"], "liquid: Number past its limit\n"]
+["divided_by", "1", ["0"], "liquid: Divided by zero\n"]
+["modulo", "-7", ["2"], "1"]
+["modulo", "7", ["-2"], "-1"]
+["modulo", "-9223372036854775808", ["-1"], "0"]
+["at_least", "4", ["5"], "5"]
+["at_most", "4", ["5"], "4"]
+["at_most", "4", [], "liquid: Unexpected arguments\n"]
+["abs", "-17", [], "17"]
+["ceil", "8", [], "8"]
+["floor", "8", [], "8"]
+["round", "-15", ["-1"], "-20"]
+["round", "14", ["-1"], "10"]
+["round", "9223372036854775807", ["-19"], "liquid: Number past its limit\n"]
+["round", "5", ["-20"], "0"]
+["round", "5", ["2"], "5"]"#;
 
 /// Returns the result of a filter.
 fn answered(
@@ -60,18 +59,7 @@ fn answered(
 
 /// Returns `true` if a filter returns what its row says.
 fn is_answered(alloc: Global, row: &Line) -> Result<bool, Fail> {
-    let input = value_of(alloc, row.text(1)?)?;
-    let argument = ValueCow::Owned(value_of(alloc, row.text(2)?)?);
-    let arguments = if argument.as_view().query_state(State::Empty) {
-        Vec::new(alloc)
-    } else {
-        vec![in alloc; argument]?
-    };
-    let found = match answered(alloc, row.text(0)?, &input, arguments.as_slice()) {
-        Ok(value) => ValueRender::new(&value).to_string(alloc)?,
-        Err(error) => error.to_string(alloc)?,
-    };
-    Ok(found.as_str() == row.text(3)?)
+    answers::is_answered(alloc, row, answered)
 }
 
 #[test]

@@ -1,5 +1,5 @@
 //! Rows of the filters on texts.
-use crate::answers::{source_of, value_of};
+use crate::answers;
 use liquid_error::Error;
 use liquid_value::{Value, ValueCow};
 use std::alloc::Global;
@@ -12,47 +12,47 @@ use std_texts::{
 };
 use tests_lines::{Line, rows_hold};
 
-/// A filter, its input, the source of its result, or its error, and the number of arguments, which follow.
-const ROWS: &str = r#"["append", "  abc  ", "\"  abc  o\"", 1, "o"]
-["append", "a", "liquid: Unexpected arguments\n", 0]
-["prepend", "b", "\"ab\"", 1, "a"]
-["upcase", "straße", "\"STRASSE\"", 0]
-["downcase", "ΑΣ ΣΑΣ", "\"ασ σασ\"", 0]
-["capitalize", "ΑΣ ΣΑΣ", "\"Ασ σασ\"", 0]
-["strip", " é ", "\"é\"", 0]
-["lstrip", "\n\ta b ", "\"a b \"", 0]
-["rstrip", "\r\r\n", "\"\"", 0]
-["strip_newlines", "\ra\r\n\nb", "\"\rab\"", 0]
-["newline_to_br", "a\r\nb", "\"a<br />\nb\"", 0]
-["escape", "&a;'", "\"&amp;a;&#39;\"", 0]
-["escape_once", "&é;&a;&#39&#39;<", "\"&amp;é;&a;&amp;#39&#39;&lt;\"", 0]
-["strip_html", "<script>if (a<b) {}</script>!", "\"!\"", 0]
-["strip_html", "a<br/>b<br>c", "\"abc\"", 0]
-["replace", "abab", "\"-a-b-a-b-\"", 2, "", "-"]
-["replace", "aaa", "\"xa\"", 2, "aa", "x"]
-["replace_first", "nihon 日本 go", "\"nihon 日本 \"", 1, "go"]
-["replace_last", "aaa", "\"ax\"", 2, "aa", "x"]
-["remove", "mid…dle", "\"mid…e\"", 1, "dl"]
-["remove_first", "🎉 party", "\"🎉rty\"", 1, " pa"]
-["remove_last", "WORD", "\"WD\"", 1, "OR"]
-["split", " a  b ", "[a, b, ]", 1, " "]
-["split", ",a,,b,,", "[, a, , b, ]", 1, ","]
-["split", "aé", "[a, é, ]", 1, ""]
-["truncate", "xxxxxxxxxx", "\"xx...\"", 1, " 5 "]
-["truncate", "ééé", "\"…\"", 2, "-1", "…"]
-["truncate", "a", "liquid: Whole number expected\n  with:\n    found=\"x\"\n", 1, "x"]
-["truncatewords", " a  b c", "\"a b...\"", 1, "2"]
-["truncatewords", " a  b", "\" a  b\"", 1, "2"]
-["truncatewords", "a b ", "\"a b&\"", 2, "2", "&"]
-["slice", "日b ababZ%", "\"babZ%\"", 2, "4", "50"]
-["slice", "abc", "\"b\"", 1, "-2"]
-["slice", "abc", "\"\"", 1, "-4"]
-["url_encode", "\n,xa*+ ~", "\"%0A%2Cxa%2A%2B+~\"", 0]
-["url_decode", "%c3%a9+%&", "\"é %&\"", 0]
-["url_decode", "%c3", "liquid: Decoded bytes are no text\n", 0]
-["base64_encode", "\r\n", "\"DQo=\"", 0]
-["base64_decode", "YWI=", "\"ab\"", 0]
-["base64_decode", "YWJ=", "liquid: Invalid base64\n", 0]"#;
+/// A filter, its input, its arguments, and the source of what it returns.
+const ROWS: &str = r#"["append", "  abc  ", ["o"], "\"  abc  o\""]
+["append", "a", [], "liquid: Unexpected arguments\n"]
+["prepend", "b", ["a"], "\"ab\""]
+["upcase", "straße", [], "\"STRASSE\""]
+["downcase", "ΑΣ ΣΑΣ", [], "\"ασ σασ\""]
+["capitalize", "ΑΣ ΣΑΣ", [], "\"Ασ σασ\""]
+["strip", " é ", [], "\"é\""]
+["lstrip", "\n\ta b ", [], "\"a b \""]
+["rstrip", "\r\r\n", [], "\"\""]
+["strip_newlines", "\ra\r\n\nb", [], "\"\rab\""]
+["newline_to_br", "a\r\nb", [], "\"a<br />\nb\""]
+["escape", "&a;'", [], "\"&amp;a;&#39;\""]
+["escape_once", "&é;&a;&#39&#39;<", [], "\"&amp;é;&a;&amp;#39&#39;&lt;\""]
+["strip_html", "<script>if (a<b) {}</script>!", [], "\"!\""]
+["strip_html", "a<br/>b<br>c", [], "\"abc\""]
+["replace", "abab", ["", "-"], "\"-a-b-a-b-\""]
+["replace", "aaa", ["aa", "x"], "\"xa\""]
+["replace_first", "nihon 日本 go", ["go"], "\"nihon 日本 \""]
+["replace_last", "aaa", ["aa", "x"], "\"ax\""]
+["remove", "mid…dle", ["dl"], "\"mid…e\""]
+["remove_first", "🎉 party", [" pa"], "\"🎉rty\""]
+["remove_last", "WORD", ["OR"], "\"WD\""]
+["split", " a  b ", [" "], "[a, b, ]"]
+["split", ",a,,b,,", [","], "[, a, , b, ]"]
+["split", "aé", [""], "[a, é, ]"]
+["truncate", "xxxxxxxxxx", [" 5 "], "\"xx...\""]
+["truncate", "ééé", ["-1", "…"], "\"…\""]
+["truncate", "a", ["x"], "liquid: Whole number expected\n  with:\n    found=\"x\"\n"]
+["truncatewords", " a  b c", ["2"], "\"a b...\""]
+["truncatewords", " a  b", ["2"], "\" a  b\""]
+["truncatewords", "a b ", ["2", "&"], "\"a b&\""]
+["slice", "日b ababZ%", ["4", "50"], "\"babZ%\""]
+["slice", "abc", ["-2"], "\"b\""]
+["slice", "abc", ["-4"], "\"\""]
+["url_encode", "\n,xa*+ ~", [], "\"%0A%2Cxa%2A%2B+~\""]
+["url_decode", "%c3%a9+%&", [], "\"é %&\""]
+["url_decode", "%c3", [], "liquid: Decoded bytes are no text\n"]
+["base64_encode", "\r\n", [], "\"DQo=\""]
+["base64_decode", "YWI=", [], "\"ab\""]
+["base64_decode", "YWJ=", [], "liquid: Invalid base64\n"]"#;
 
 /// Returns the result of a filter without arguments.
 fn answered_alone(alloc: Global, filter: &str, input: &Value) -> Result<Value, Error> {
@@ -100,26 +100,9 @@ fn answered(
     }
 }
 
-/// Returns the arguments of a row.
-fn arguments_of(alloc: Global, row: &Line) -> Result<Vec<ValueCow<'static>>, Fail> {
-    let mut arguments = Vec::new(alloc);
-    match row.number(3)? {
-        0 => {}
-        1 => arguments.push(ValueCow::Owned(value_of(alloc, row.text(4)?)?))?,
-        _ => {
-            arguments.push(ValueCow::Owned(value_of(alloc, row.text(4)?)?))?;
-            arguments.push(ValueCow::Owned(value_of(alloc, row.text(5)?)?))?;
-        }
-    }
-    Ok(arguments)
-}
-
 /// Returns `true` if a filter returns what its row says.
 fn is_answered(alloc: Global, row: &Line) -> Result<bool, Fail> {
-    let input = value_of(alloc, row.text(1)?)?;
-    let arguments = arguments_of(alloc, row)?;
-    let answer = answered(alloc, row.text(0)?, &input, arguments.as_slice());
-    Ok(source_of(alloc, answer)?.as_str() == row.text(2)?)
+    answers::is_answered(alloc, row, answered)
 }
 
 #[test]

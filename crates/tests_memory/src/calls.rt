@@ -14,5 +14,6 @@ mod runtimes;
 mod scopes;
 mod trials;
 mod values;
+mod wanted;
 
 pub use trials::tried;

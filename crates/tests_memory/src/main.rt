@@ -7,6 +7,7 @@
 //! it.
 #![tactic(auto)]
 
+mod built;
 mod calls;
 mod growths;
 mod problem;

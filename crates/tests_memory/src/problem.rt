@@ -38,3 +38,27 @@ impl<T: Drop> From<AllocFailed<T>> for Problem {
         Problem::Memory(AllocError)
     }
 }
+
+/// Returns both results, or the first problem.
+///
+/// Whoever calls it holds no value where another call may fail. A check reads what goes out of scope there part by part,
+/// once for each such place, and reads a call of `drop` only once.
+pub fn both<A: Drop, B: Drop>(
+    first: Result<A, Problem>,
+    second: Result<B, Problem>,
+) -> Result<(A, B), Problem> {
+    let first = match first {
+        Ok(first) => first,
+        Err(problem) => {
+            drop(second);
+            return Err(problem);
+        }
+    };
+    match second {
+        Ok(second) => Ok((first, second)),
+        Err(problem) => {
+            drop(first);
+            Err(problem)
+        }
+    }
+}

@@ -1,7 +1,12 @@
 //! Templates that are parsed and rendered, and partials that are requested from stores.
+//!
+//! All but the first steps are generic in the language and in the compiler of partials, so that a check reads them once
+//! and not for each language and each store.
 mod capturing;
 mod compiling;
+mod framing;
 mod leaking;
+mod pages;
 mod parsing;
 mod rendering;
 mod requests;
@@ -10,32 +15,89 @@ mod stores;
 
 use crate::growths::Seen;
 use crate::problem::Problem;
+use bench::languages::{language, leaky_language};
+use liquid_core::Discreet;
+use liquid_core::parser::{Language, ParseBlock, ParseFilter, ParseTag};
+use liquid_core::partials::{
+    EagerCompiler, InMemorySource, LazyCompiler, OnDemandCompiler, PartialCompiler,
+};
+use requests::Keeping;
 use row::Row;
 use std::alloc::Global;
+use std::rc::Rc;
+use stores::OfSource;
 
-/// Makes the call of a row, after that many boxes.
+/// Makes the call of a row over a compiler of its partials, after that many boxes.
+fn called<C, F, T, B>(
+    alloc: Global,
+    row: &Row,
+    language: &Rc<Language<F, T, B>>,
+    word: &str,
+    boxes: usize,
+) -> Result<Seen, Problem>
+where
+    F: ParseFilter + Drop,
+    T: ParseTag<F> + Drop,
+    B: ParseBlock<F> + Drop,
+    T::Node: Discreet<()>,
+    B::Node: Discreet<()>,
+    C: PartialCompiler<F, T, B> + OfSource + Drop,
+    C::Store: Keeping + Drop,
+{
+    match word {
+        "parse" => parsing::parsed::<C, F, T, B>(alloc, row, language, boxes),
+        "compile_eager" | "compile_lazy" | "compile_on_demand" => {
+            compiling::compiled::<C, F, T, B>(alloc, row, language, boxes)
+        }
+        "get_eager" | "get_lazy" | "get_on_demand" => {
+            requests::requested::<C, F, T, B>(alloc, row, language, boxes)
+        }
+        _ => rendering::rendered::<C, F, T, B>(alloc, row, language, word, boxes),
+    }
+}
+
+/// Makes the call of a row in a language, after that many boxes.
+fn called_in<F, T, B>(
+    alloc: Global,
+    row: &Row,
+    language: Language<F, T, B>,
+    word: &str,
+    boxes: usize,
+) -> Result<Seen, Problem>
+where
+    F: ParseFilter + Drop,
+    T: ParseTag<F> + Drop,
+    B: ParseBlock<F> + Drop,
+    T::Node: Discreet<()>,
+    B::Node: Discreet<()>,
+{
+    let language = Rc::new(alloc, language)?;
+    let seen = match word {
+        "compile_eager" | "get_eager" => {
+            called::<EagerCompiler<InMemorySource>, F, T, B>(alloc, row, &language, word, boxes)
+        }
+        "compile_on_demand" | "get_on_demand" => {
+            called::<OnDemandCompiler<InMemorySource>, F, T, B>(alloc, row, &language, word, boxes)
+        }
+        _ => called::<LazyCompiler<InMemorySource>, F, T, B>(alloc, row, &language, word, boxes),
+    };
+    drop(language);
+    seen
+}
+
+/// Makes the call of a row in the language that the call needs, after that many boxes.
 fn call(alloc: Global, row: &Row, word: &str, boxes: usize) -> Result<Seen, Problem> {
     match word {
-        "parse" => parsing::parsed(alloc, row, boxes),
-        "render_to" => rendering::plainly(alloc, row, boxes),
-        "render_sandboxed" => rendering::in_a_sandbox(alloc, row, boxes),
-        "render_isolated" => rendering::in_isolation(alloc, row, boxes),
-        "render_in_chained" => rendering::over_chained(alloc, row, boxes),
-        "render_in_flat" => rendering::over_flat(alloc, row, boxes),
-        "render_leaky" => leaking::leaked(alloc, row, boxes),
+        "render_leaky" => leaking::leaked(alloc, row, leaky_language(alloc)?, boxes),
         "render_captured" => capturing::captured(alloc, row, boxes),
-        "compile_eager" => compiling::eagerly(alloc, row, boxes),
-        "compile_lazy" => compiling::lazily(alloc, row, boxes),
-        "compile_on_demand" => compiling::on_demand(alloc, row, boxes),
-        "get_eager" => requests::of_eager(alloc, row, boxes),
-        "get_lazy" => requests::of_lazy(alloc, row, boxes),
-        "get_on_demand" => requests::of_on_demand(alloc, row, boxes),
-        _ => Err(Problem::Case),
+        _ => called_in(alloc, row, language(alloc)?, word, boxes),
     }
 }
 
 /// Makes a call of the row of this name after that many boxes, and then once more.
 pub fn tried(alloc: Global, name: &str, word: &str, boxes: usize) -> Result<Seen, Problem> {
     let row = Row::named(alloc, name)?;
-    call(alloc, &row, word, boxes)
+    let seen = call(alloc, &row, word, boxes);
+    drop(row);
+    seen
 }

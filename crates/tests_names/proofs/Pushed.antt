@@ -1,7 +1,16 @@
 -- A frame that was pushed, and is popped again.
 use Rattle.std.proofs.Common.{◌≡◌, ◌<◌, List, ◌∷◌, length, sym, ◌∙◌, arith}
 use Rattle.liquid_runtime.specs.meaning.View.{View}
-use Rattle.liquid_runtime.specs.meaning.Frames.{FrameShape, no_frame, stack_frame, sandboxed_frame, isolated_frame, global_frame, Restore, restored_by}
+use Rattle.liquid_runtime.specs.meaning.Frames.{
+  FrameShape,
+  no_frame,
+  stack_frame,
+  sandboxed_frame,
+  isolated_frame,
+  global_frame,
+  Restore,
+  restored_by,
+}
 use Rattle.liquid_runtime.specs.meaning.OpenFrames.{opened, EndsFirst}
 
 later_are : {A : Type 0} (x y : A) (xs ys : List A) → x ∷ xs ≡ y ∷ ys → xs ≡ ys

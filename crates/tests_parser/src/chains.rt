@@ -1,25 +1,33 @@
 //! Chains of filters, made by hand.
-use crate::made::{arguments, expression, part_in, parts_in, runtime};
+use crate::made::{arguments, expression, part_in, parts_in};
+use crate::runtimes::{Check, check_over};
+use crate::told::displays;
 use bench::filters::{AnyFilter, Filters};
 use liquid_core::model::ValueCow;
-use liquid_core::runtime::{BuiltRuntime, Runtime};
+use liquid_core::parser::Filter;
+use liquid_core::runtime::Runtime;
 use liquid_core::{Error, ValueView};
 use liquid_plugins::{Expression, FilterChain, ParseFilter};
 use serde_json::Value as Json;
 use std::alloc::{AllocError, Global};
 use std::test::Fail;
-use tests_lines::{Line, rows_hold};
+use tests_lines::{Line, holds};
 
-fn answer_text(alloc: Global, answer: Result<ValueCow<'_>, Error>) -> Result<String, AllocError> {
+/// Returns `true` if a result is a value that renders as a text, or an error with that text.
+fn is_text(
+    alloc: Global,
+    answer: Result<ValueCow<'_>, Error>,
+    text: &str,
+) -> Result<bool, AllocError> {
     match answer {
-        Ok(value) => value.render().to_string(alloc),
-        Err(error) => error.to_string(alloc),
+        Ok(value) => displays(alloc, &value.render(), text),
+        Err(error) => displays(alloc, &error, text),
     }
 }
 
 /// Chains: the first value and its indexes, and the filters, each with its arguments; then the text that the chain
 /// shows, and its result; and its result with lenient names, if that is something else.
-const ROWS: &str =
+static ROWS: &str =
     r#"[{"text": "a"}, [], [["append", [{"text": "b"}]], ["append", [1]]], "\"a\" | append | append", "ab1"]
 ["x", [], [], "x | ", "liquid: Unknown variable\n  with:\n    requested variable=x\n", ""]
 [5, [], [["fail", []]], "5 | fail", "liquid: bad\nfrom: Filter error\n  with:\n    filter=fail\n    input=5\n"]
@@ -41,26 +49,50 @@ pub(crate) fn filter_named(name: Option<&Json>) -> Result<Filters, Fail> {
 }
 
 fn entry_of(alloc: Global, row: &Line) -> Result<Expression, Fail> {
+    let part = part_in(row.member(0)?)?;
     let indexes = parts_in(alloc, row.list(1)?)?;
-    Ok(expression(alloc, part_in(row.member(0)?)?, indexes.as_slice())?)
+    Ok(expression(alloc, part, indexes.as_slice())?)
 }
 
-fn chain_of(alloc: Global, row: &Line) -> Result<FilterChain<AnyFilter>, Fail> {
-    let mut filters = Vec::new(alloc);
-    for call in row.list(2)? {
+/// Returns the filter of a name with these arguments.
+fn filter_with(alloc: Global, name: Option<&Json>, given: &Vec<Json>) -> Result<AnyFilter, Fail> {
+    let filter = filter_named(name)?;
+    let parts = parts_in(alloc, given)?;
+    let given = arguments(alloc, parts.as_slice())?;
+    Ok(filter.parse(alloc, given)?)
+}
+
+/// Puts the filters of these calls after others.
+fn push_filters(
+    alloc: Global,
+    filters: &mut Vec<AnyFilter>,
+    calls: &Vec<Json>,
+) -> Result<(), Fail> {
+    for call in calls {
         let Some(Json::Array(given)) = call.get(1) else {
             return Err(Fail::from("a filter has no arguments"));
         };
-        let parts = parts_in(alloc, given)?;
-        let given = arguments(alloc, parts.as_slice())?;
-        filters.push(filter_named(call.get(0))?.parse(alloc, given)?)?;
+        filters.push(filter_with(alloc, call.get(0), given)?)?;
     }
-    Ok(FilterChain::new(entry_of(alloc, row)?, filters))
+    Ok(())
+}
+
+/// Returns the filters of a row.
+fn filters_of(alloc: Global, row: &Line) -> Result<Vec<AnyFilter>, Fail> {
+    let calls = row.list(2)?;
+    let mut filters = Vec::new(alloc);
+    push_filters(alloc, &mut filters, calls)?;
+    Ok(filters)
+}
+
+fn chain_of(alloc: Global, row: &Line) -> Result<FilterChain<AnyFilter>, Fail> {
+    let entry = entry_of(alloc, row)?;
+    Ok(FilterChain::new(entry, filters_of(alloc, row)?))
 }
 
 /// Returns `true` if a chain shows the text of its row.
-fn is_shown(alloc: Global, chain: &FilterChain<AnyFilter>, row: &Line) -> Result<bool, Fail> {
-    Ok(chain.to_string(alloc)?.as_str() == row.text(3)?)
+fn is_shown<X: Filter>(alloc: Global, chain: &FilterChain<X>, row: &Line) -> Result<bool, Fail> {
+    Ok(displays(alloc, chain, row.text(3)?)?)
 }
 
 /// Returns the result of the chain of a row with strict names, or with lenient ones.
@@ -71,31 +103,41 @@ fn expected(row: &Line, lenient: bool) -> Result<&str, Fail> {
     }
 }
 
-/// Returns `true` if a chain has the result of its row.
-fn is_answered(
+/// Returns `true` if a chain shows the text and has the result of its row.
+fn is_as_told<X: Filter, R: Runtime>(
     alloc: Global,
-    chain: &FilterChain<AnyFilter>,
+    chain: &FilterChain<X>,
     row: &Line,
-    runtime: &BuiltRuntime<(), ()>,
+    runtime: &R,
 ) -> Result<bool, Fail> {
-    let expected = expected(row, runtime.is_lenient())?;
-    Ok(answer_text(alloc, chain.evaluate(alloc, runtime))?.as_str() == expected)
+    let text = expected(row, runtime.is_lenient())?;
+    let is_answered = is_text(alloc, chain.evaluate(alloc, runtime), text)?;
+    Ok(is_shown(alloc, chain, row)? & is_answered)
 }
 
-/// Returns `true` if the chain of a row shows the text and has the result of the row.
-fn is_as_told(alloc: Global, row: &Line, runtime: &BuiltRuntime<(), ()>) -> Result<bool, Fail> {
-    let chain = chain_of(alloc, row)?;
-    Ok(is_shown(alloc, &chain, row)? && is_answered(alloc, &chain, row, runtime)?)
+/// Returns `true` if the chain of a row is as the row says.
+fn chain_is_as_told<R: Runtime>(alloc: Global, row: &Line, runtime: &R) -> Result<bool, Fail> {
+    is_as_told(alloc, &chain_of(alloc, row)?, row, runtime)
+}
+
+/// Chains come to their values.
+struct ComeToValues;
+
+impl Check for ComeToValues {
+    fn check<R: Runtime>(&self, alloc: Global, runtime: &R) -> Result<(), Fail> {
+        for row in ROWS.lines() {
+            let is_told = chain_is_as_told(alloc, &Line::of(alloc, row)?, runtime)?;
+            holds(is_told, row)?;
+        }
+        Ok(())
+    }
 }
 
 #[test]
 fn chains_come_to_their_values(rt: HostRuntime) -> Result<(), Fail> {
     let alloc = rt.alloc();
-    for lenient in [false, true] {
-        let runtime = runtime(alloc, lenient)?;
-        rows_hold(alloc, ROWS, |alloc, row| is_as_told(alloc, row, &runtime))?;
-    }
-    Ok(())
+    check_over(alloc, false, &ComeToValues)?;
+    check_over(alloc, true, &ComeToValues)
 }
 
 /// Returns `true` if trying gives the value that evaluating gives, or nothing if that is nil because names are lenient.
@@ -106,35 +148,51 @@ fn is_same(tried: &Option<ValueCow<'_>>, value: &ValueCow<'_>, is_lenient: bool)
     }
 }
 
+/// Returns `true` if what was tried is the result, or nothing if that is an error, or is nil because names are lenient.
+fn is_alike(
+    tried: &Option<ValueCow<'_>>,
+    answer: Result<ValueCow<'_>, Error>,
+    is_lenient: bool,
+) -> bool {
+    match answer {
+        Ok(value) => is_same(tried, &value, is_lenient),
+        Err(_) => tried.is_none(),
+    }
+}
+
 /// Returns `true` if trying an entry gives what evaluating it does, or nothing if that is an error, or is nil because
 /// names are lenient.
-fn is_tried(
+fn is_tried<R: Runtime>(
     alloc: Global,
     entry: &Expression,
-    runtime: &BuiltRuntime<(), ()>,
+    runtime: &R,
 ) -> Result<bool, AllocError> {
     let tried = entry.try_evaluate(alloc, runtime)?;
-    Ok(match entry.evaluate(alloc, runtime) {
-        Ok(value) => is_same(&tried, &value, runtime.is_lenient()),
-        Err(_) => tried.is_none(),
-    })
+    let answer = entry.evaluate(alloc, runtime);
+    Ok(is_alike(&tried, answer, runtime.is_lenient()))
 }
 
 /// Returns `true` if the entry of a row is tried alike.
-fn entry_is_tried(alloc: Global, row: &Line, runtime: &BuiltRuntime<(), ()>) -> Result<bool, Fail> {
+fn entry_is_tried<R: Runtime>(alloc: Global, row: &Line, runtime: &R) -> Result<bool, Fail> {
     Ok(is_tried(alloc, &entry_of(alloc, row)?, runtime)?)
+}
+
+/// What is tried is not refused.
+struct AreTried;
+
+impl Check for AreTried {
+    fn check<R: Runtime>(&self, alloc: Global, runtime: &R) -> Result<(), Fail> {
+        for row in ROWS.lines() {
+            let is_tried = entry_is_tried(alloc, &Line::of(alloc, row)?, runtime)?;
+            holds(is_tried, row)?;
+        }
+        Ok(())
+    }
 }
 
 #[test]
 fn what_is_tried_is_not_refused(rt: HostRuntime) -> Result<(), Fail> {
     let alloc = rt.alloc();
-    for lenient in [false, true] {
-        let runtime = runtime(alloc, lenient)?;
-        rows_hold(
-            alloc,
-            ROWS,
-            |alloc, row| entry_is_tried(alloc, row, &runtime),
-        )?;
-    }
-    Ok(())
+    check_over(alloc, false, &AreTried)?;
+    check_over(alloc, true, &AreTried)
 }

@@ -1,6 +1,7 @@
 //! Filters without a template, and registries.
 use crate::chains::filter_named;
 use crate::made::{Number, arguments, part_of, parts_in};
+use crate::told::displays;
 use bench::filters::Filters;
 use liquid_core::ValueView;
 use liquid_core::model::{Value, ValueCow};
@@ -9,16 +10,17 @@ use std::alloc::{AllocError, Global};
 use std::test::Fail;
 use tests_lines::{Line, holds, rows_hold};
 
-/// Returns what a filter makes of an input, or the text of its error.
-fn called(
+/// Returns `true` if a filter makes of the number 5 a value that renders as a text, or fails with that text.
+fn makes(
     alloc: Global,
     filter: Filters,
     given: FilterArguments<'_>,
-) -> Result<String, AllocError> {
+    text: &str,
+) -> Result<bool, AllocError> {
     let input = ValueCow::Owned(Value::scalar(5i64));
     match call_filter(alloc, &filter, &input, given) {
-        Ok(value) => value.render().to_string(alloc),
-        Err(error) => error.to_string(alloc),
+        Ok(value) => displays(alloc, &value.render(), text),
+        Err(error) => displays(alloc, &error, text),
     }
 }
 
@@ -34,22 +36,27 @@ const CALLS: &str = r#"["append", [{"text": "%"}], "5%"]
 
 /// Returns `true` if a filter makes of its arguments what the row says.
 fn is_called(alloc: Global, row: &Line) -> Result<bool, Fail> {
-    let filter = filter_named(row.found(0))?;
-    let given = arguments(alloc, parts_in(alloc, row.list(1)?)?.as_slice())?;
-    Ok(called(alloc, filter, given)?.as_str() == row.text(2)?)
+    let (filter, text) = (filter_named(row.found(0))?, row.text(2)?);
+    let parts = parts_in(alloc, row.list(1)?)?;
+    Ok(makes(alloc, filter, arguments(alloc, parts.as_slice())?, text)?)
 }
 
 /// Returns the argument 1, and the argument 2 by a keyword.
 fn keyword_arguments(alloc: Global) -> Result<FilterArguments<'static>, AllocError> {
+    let by = part_of(alloc, Number(2))?;
     let mut given = arguments(alloc, &[Number(1)])?;
-    given.keyword.push(("by", part_of(alloc, Number(2))?))?;
+    given.keyword.push(("by", by))?;
     Ok(given)
 }
 
 /// Returns `true` if a keyword that a filter doesn't know is an error.
 fn keyword_is_refused(alloc: Global) -> Result<bool, AllocError> {
-    let given = keyword_arguments(alloc)?;
-    Ok(called(alloc, Filters::Append, given)?.as_str() == UNEXPECTED)
+    makes(
+        alloc,
+        Filters::Append,
+        keyword_arguments(alloc)?,
+        UNEXPECTED,
+    )
 }
 
 /// Returns `true` if the filters return their names and parameters.
@@ -83,16 +90,16 @@ fn registers_two(registry: &mut Registry) -> Result<bool, AllocError> {
     Ok(is_first_new && is_second_new)
 }
 
+/// Returns `true` if a filter is registered as `fail`, and none as `Fail`.
+fn has_fail(registry: &Registry, filter: &Filters) -> bool {
+    (registry.get("fail") == Some(filter)) & registry.get("Fail").is_none()
+}
+
 /// Returns `true` if the other filter takes the place of the first one, but not in a copy made before.
 fn replaces_one(registry: &mut Registry) -> Result<bool, AllocError> {
     let before = registry.clone()?;
     let is_replaced = registry.register("fail", Filters::Fail)?;
-    Ok(
-        is_replaced
-            && registry.get("fail") == Some(&Filters::Fail)
-            && before.get("fail") == Some(&Filters::Append)
-            && registry.get("Fail").is_none(),
-    )
+    Ok(is_replaced & has_fail(registry, &Filters::Fail) & has_fail(&before, &Filters::Append))
 }
 
 /// Returns `true` if the names are listed in order.
@@ -115,20 +122,25 @@ fn plugins_are_listed(registry: &Registry) -> bool {
         && plugins.next().is_none()
 }
 
-#[test]
-fn a_registry_has_plug_ins_by_name(rt: HostRuntime) -> Result<(), Fail> {
-    let mut registry = PluginRegistry::new(rt.alloc());
-    holds(registers_two(&mut registry)?, "two names are new")?;
+/// Fails unless an empty registry has the filters that are registered, by name.
+fn has_plug_ins(registry: &mut Registry) -> Result<(), Fail> {
+    holds(registers_two(registry)?, "two names are new")?;
     holds(
-        replaces_one(&mut registry)?,
+        replaces_one(registry)?,
         "a filter takes the place of another",
     )?;
     holds(
-        names_are_listed(&registry),
+        names_are_listed(registry),
         "the names are listed in their order",
     )?;
     holds(
-        plugins_are_listed(&registry),
+        plugins_are_listed(registry),
         "the filters are listed in their names' order",
     )
+}
+
+#[test]
+fn a_registry_has_plug_ins_by_name(rt: HostRuntime) -> Result<(), Fail> {
+    let mut registry = PluginRegistry::new(rt.alloc());
+    has_plug_ins(&mut registry)
 }

@@ -14,11 +14,17 @@ mod expressions;
 #[cfg(test)]
 mod filters;
 #[cfg(test)]
+mod languages;
+#[cfg(test)]
 mod made;
+#[cfg(test)]
+mod one_by_one;
 #[cfg(test)]
 mod read_elements;
 #[cfg(test)]
 mod reflections;
+#[cfg(test)]
+mod runtimes;
 #[cfg(test)]
 mod taken;
 #[cfg(test)]

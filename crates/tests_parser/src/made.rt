@@ -1,6 +1,5 @@
-//! Expressions, arguments and a runtime, made by hand.
-use liquid_core::model::{Scalar, to_object};
-use liquid_core::runtime::{BuiltRuntime, RuntimeBuilder};
+//! Expressions and arguments, made by hand.
+use liquid_core::model::Scalar;
 use liquid_plugins::{Expression, FilterArguments, Variable};
 use serde_json::Value as Json;
 use std::alloc::{AllocError, Global};
@@ -40,12 +39,43 @@ pub(crate) fn part_in(given: &Json) -> Result<Part<'_>, Fail> {
     }
 }
 
-pub(crate) fn parts_in(alloc: Global, given: &Vec<Json>) -> Result<Vec<Part<'_>>, Fail> {
-    let mut parts = Vec::new(alloc);
+/// Puts the parts that a row gives after others.
+fn push_parts<'j>(parts: &mut Vec<Part<'j>>, given: &'j Vec<Json>) -> Result<(), Fail> {
     for part in given {
         parts.push(part_in(part)?)?;
     }
+    Ok(())
+}
+
+pub(crate) fn parts_in(alloc: Global, given: &Vec<Json>) -> Result<Vec<Part<'_>>, Fail> {
+    let mut parts = Vec::new(alloc);
+    push_parts(&mut parts, given)?;
     Ok(parts)
+}
+
+/// Puts the expressions of parts after others.
+fn push_each(
+    alloc: Global,
+    expressions: &mut Vec<Expression>,
+    parts: &[Part<'_>],
+) -> Result<(), AllocError> {
+    for part in parts {
+        expressions.push(part_of(alloc, *part)?)?;
+    }
+    Ok(())
+}
+
+/// Returns the expressions of parts.
+fn each_of(alloc: Global, parts: &[Part<'_>]) -> Result<Vec<Expression>, AllocError> {
+    let mut expressions = Vec::new(alloc);
+    push_each(alloc, &mut expressions, parts)?;
+    Ok(expressions)
+}
+
+/// Returns the expression of a name and indexes.
+fn path_of(alloc: Global, name: &str, indexes: &[Part<'_>]) -> Result<Expression, AllocError> {
+    let name = Scalar::from(text(alloc, name)?);
+    Ok(Expression::of_parts(name, each_of(alloc, indexes)?))
 }
 
 pub(crate) fn expression(
@@ -54,13 +84,7 @@ pub(crate) fn expression(
     indexes: &[Part<'_>],
 ) -> Result<Expression, AllocError> {
     match entry {
-        Name(name) => {
-            let mut parts = Vec::new(alloc);
-            for index in indexes {
-                parts.push(part_of(alloc, *index)?)?;
-            }
-            Ok(Expression::of_parts(Scalar::from(text(alloc, name)?), parts))
-        }
+        Name(name) => path_of(alloc, name, indexes),
         literal => part_of(alloc, literal),
     }
 }
@@ -69,27 +93,8 @@ pub(crate) fn arguments(
     alloc: Global,
     parts: &[Part<'_>],
 ) -> Result<FilterArguments<'static>, AllocError> {
-    let mut positional = Vec::new(alloc);
-    for given in parts {
-        positional.push(part_of(alloc, *given)?)?;
-    }
     Ok(FilterArguments {
-        positional,
+        positional: each_of(alloc, parts)?,
         keyword: Vec::new(alloc),
     })
-}
-
-/// The globals of the rows.
-const GLOBALS: &str =
-    r#"{"list": [0, 1, 2, 3, 4, 5, 6, 7, 8, 9], "one": [1], "word": "part", "box": {"part": 7}}"#;
-
-/// Returns a runtime with the globals, with lenient names or not.
-pub(crate) fn runtime(alloc: Global, lenient: bool) -> Result<BuiltRuntime<(), ()>, Fail> {
-    let globals = to_object(alloc, &Json::from_str(alloc, GLOBALS)?)?;
-    Ok(
-        RuntimeBuilder::new(alloc)
-            .set_globals(globals)
-            .set_lenient(lenient)
-            .build(),
-    )
 }

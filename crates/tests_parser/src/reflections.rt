@@ -1,8 +1,12 @@
 //! What tags and blocks say about themselves.
-use bench::{Blocks, Tags, language};
-use liquid_core::parser::{BlockReflection, PluginRegistry, TagReflection};
+use crate::languages::{Check, check_language};
+use liquid_core::parser::{
+    BlockReflection, Language, ParseBlock, ParseFilter, ParseTag, PluginRegistry, TagReflection,
+};
+use liquid_core::runtime::Renderable;
+use std::alloc::Global;
 use std::test::Fail;
-use tests_lines::{Line, rows_hold};
+use tests_lines::{Line, holds};
 
 /// Returns `true` if a text that may be given is what a row has at a place: a text, or null.
 fn is_told(told: Option<&str>, row: &Line, place: usize) -> Result<bool, Fail> {
@@ -13,18 +17,18 @@ fn is_told(told: Option<&str>, row: &Line, place: usize) -> Result<bool, Fail> {
 }
 
 /// Returns `true` if a block has the tags, the description, the example and the spec of a row.
-fn block_is_told(block: &Blocks, row: &Line) -> Result<bool, Fail> {
-    Ok(
-        block.start_tag() == row.text(0)?
-            && block.end_tag() == row.text(1)?
-            && block.description() == row.text(2)?
-            && is_told(block.example(), row, 3)?
-            && is_told(block.spec(), row, 4)?,
-    )
+fn block_is_told<B: BlockReflection>(block: &B, row: &Line) -> Result<bool, Fail> {
+    let has_tags = (block.start_tag() == row.text(0)?) & (block.end_tag() == row.text(1)?);
+    let is_described = block.description() == row.text(2)?;
+    let has_example = is_told(block.example(), row, 3)?;
+    Ok(is_told(block.spec(), row, 4)? & has_tags & is_described & has_example)
 }
 
 /// Returns `true` if the block that a row names is registered, and says what the row says.
-fn has_block(blocks: &PluginRegistry<Blocks>, row: &Line) -> Result<bool, Fail> {
+fn has_block<B: BlockReflection + Drop>(
+    blocks: &PluginRegistry<B>,
+    row: &Line,
+) -> Result<bool, Fail> {
     match blocks.get(row.text(0)?) {
         Some(block) => block_is_told(block, row),
         None => Ok(false),
@@ -32,29 +36,45 @@ fn has_block(blocks: &PluginRegistry<Blocks>, row: &Line) -> Result<bool, Fail> 
 }
 
 /// Start tag, end tag, description, example and spec.
-const BLOCKS: &str = r#"["box", "endbox", "Writes its body in brackets.", null, null]
+static BLOCKS: &str = r#"["box", "endbox", "Writes its body in brackets.", null, null]
 ["swap", "endswap", "Renders what comes after `mid`, and then what comes before it.", null, null]
 ["raw", "endraw", "Writes its body as it stands.", null, null]"#;
 
+/// Blocks tell what they are.
+struct TellBlocks;
+
+impl Check for TellBlocks {
+    fn check<F, T, B>(&self, alloc: Global, language: &Language<F, T, B>) -> Result<(), Fail>
+    where
+        F: ParseFilter + Drop,
+        T: ParseTag<F> + Drop,
+        B: ParseBlock<F> + Drop,
+        T::Node: Renderable<()>,
+        B::Node: Renderable<()>,
+    {
+        for row in BLOCKS.lines() {
+            let is_told = has_block(&language.blocks, &Line::of(alloc, row)?)?;
+            holds(is_told, row)?;
+        }
+        Ok(())
+    }
+}
+
 #[test]
 fn blocks_tell_what_they_are(rt: HostRuntime) -> Result<(), Fail> {
-    let alloc = rt.alloc();
-    let language = language(alloc)?;
-    rows_hold(alloc, BLOCKS, |_, row| has_block(&language.blocks, row))
+    check_language(rt.alloc(), &TellBlocks)
 }
 
 /// Returns `true` if a tag has the name, the description, the example and the spec of a row.
-fn tag_is_told(tag: &Tags, row: &Line) -> Result<bool, Fail> {
-    Ok(
-        tag.tag() == row.text(0)?
-            && tag.description() == row.text(1)?
-            && is_told(tag.example(), row, 2)?
-            && is_told(tag.spec(), row, 3)?,
-    )
+fn tag_is_told<T: TagReflection>(tag: &T, row: &Line) -> Result<bool, Fail> {
+    let is_named = tag.tag() == row.text(0)?;
+    let is_described = tag.description() == row.text(1)?;
+    let has_example = is_told(tag.example(), row, 2)?;
+    Ok(is_told(tag.spec(), row, 3)? & is_named & is_described & has_example)
 }
 
 /// Returns `true` if the tag that a row names is registered, and says what the row says.
-fn has_tag(tags: &PluginRegistry<Tags>, row: &Line) -> Result<bool, Fail> {
+fn has_tag<T: TagReflection + Drop>(tags: &PluginRegistry<T>, row: &Line) -> Result<bool, Fail> {
     match tags.get(row.text(0)?) {
         Some(tag) => tag_is_told(tag, row),
         None => Ok(false),
@@ -62,12 +82,30 @@ fn has_tag(tags: &PluginRegistry<Tags>, row: &Line) -> Result<bool, Fail> {
 }
 
 /// Name, description, example and spec.
-const TAGS: &str = r#"["set", "Sets a global to a value, and writes nothing.", null, null]
+static TAGS: &str = r#"["set", "Sets a global to a value, and writes nothing.", null, null]
 ["brk", "Leaves the loop around it.", null, null]"#;
+
+/// Tags tell what they are.
+struct TellTags;
+
+impl Check for TellTags {
+    fn check<F, T, B>(&self, alloc: Global, language: &Language<F, T, B>) -> Result<(), Fail>
+    where
+        F: ParseFilter + Drop,
+        T: ParseTag<F> + Drop,
+        B: ParseBlock<F> + Drop,
+        T::Node: Renderable<()>,
+        B::Node: Renderable<()>,
+    {
+        for row in TAGS.lines() {
+            let is_told = has_tag(&language.tags, &Line::of(alloc, row)?)?;
+            holds(is_told, row)?;
+        }
+        Ok(())
+    }
+}
 
 #[test]
 fn tags_tell_what_they_are(rt: HostRuntime) -> Result<(), Fail> {
-    let alloc = rt.alloc();
-    let language = language(alloc)?;
-    rows_hold(alloc, TAGS, |_, row| has_tag(&language.tags, row))
+    check_language(rt.alloc(), &TellTags)
 }

@@ -1,31 +1,24 @@
 //! The next token of a tag, as what a plug-in expects, and what is left after it.
+use crate::languages::{Check, check_language};
 use crate::tokens::{joined, tokens_of};
-use crate::told::told;
-use bench::{Filters, language};
+use crate::told::is_told;
 use liquid_core::Error;
-use liquid_core::parser::{FilterChain, ParseFilter, PluginRegistry, TagTokenIter};
-use std::alloc::Global;
+use liquid_core::parser::{
+    Language, ParseBlock, ParseFilter, ParseTag, PluginRegistry, TagTokenIter,
+};
+use liquid_core::runtime::Renderable;
+use std::alloc::{AllocError, Global};
 use std::test::Fail;
-use tests_lines::{Line, rows_hold};
+use tests_lines::{Line, holds};
 
 const MISSING: &str = "Token expected";
 
-type Registry = PluginRegistry<Filters>;
-
-/// Returns the text that a chain shows.
-pub(crate) fn chain_text(
-    alloc: Global,
-    chain: &FilterChain<<Filters as ParseFilter>::Filter>,
-) -> Result<String, Error> {
-    Ok(chain.to_string(alloc)?)
-}
-
 /// Returns the text of the next token, as what a row expects.
-fn next_text(
+fn next_text<F: ParseFilter + Drop>(
     alloc: Global,
     expected: &str,
     tokens: &mut TagTokenIter<'_>,
-    filters: &Registry,
+    filters: &PluginRegistry<F>,
 ) -> Result<String, Error> {
     if expected == "identifier" {
         return Ok(String::from_str(alloc, tokens.next_identifier(alloc, MISSING)?)?);
@@ -34,29 +27,42 @@ fn next_text(
         return Ok(tokens.next_value(alloc, MISSING)?.to_string(alloc)?);
     }
     if expected == "chain" {
-        return chain_text(alloc, &tokens.next_filter_chain(alloc, MISSING, filters)?);
+        return Ok(
+            tokens
+                .next_filter_chain(alloc, MISSING, filters)?
+                .to_string(alloc)?,
+        );
     }
     tokens.next_str(alloc, MISSING, expected)?;
     Ok(String::from_str(alloc, expected)?)
 }
 
+/// Returns `true` if a text, or the first line of the error, is this one.
+fn is_answer(alloc: Global, answer: Result<String, Error>, text: &str) -> Result<bool, AllocError> {
+    match answer {
+        Ok(answer) => Ok(answer.as_str() == text),
+        Err(error) => is_told(alloc, &error, text),
+    }
+}
+
 /// Returns `true` if the next token of a row's tag is what the row says, or has the row's error, and the same tokens
 /// are left.
-fn is_taken(alloc: Global, row: &Line, filters: &Registry) -> Result<bool, Fail> {
-    let text = row.text(1)?;
+fn is_taken<F: ParseFilter + Drop>(
+    alloc: Global,
+    row: &Line,
+    filters: &PluginRegistry<F>,
+) -> Result<bool, Fail> {
+    let (expected, text) = (row.text(0)?, row.text(1)?);
+    let (answer, left) = (row.text(2)?, row.text(3)?);
     let mut tokens = tokens_of(alloc, text)?;
-    let answer = match next_text(alloc, row.text(0)?, &mut tokens, filters) {
-        Ok(answer) => answer,
-        Err(error) => told(alloc, &error)?,
-    };
-    Ok(
-        answer.as_str() == row.text(2)?
-            && joined(alloc, tokens, text.len())?.as_str() == row.text(3)?,
-    )
+    let next = next_text(alloc, expected, &mut tokens, filters);
+    let is_next = is_answer(alloc, next, answer)?;
+    let is_left = joined(alloc, tokens, text.len())?.as_str() == left;
+    Ok(is_next & is_left)
 }
 
 /// What the first token of a tag should be, the tag, the token or its error, and the tokens that are left.
-const ROWS: &str = r#"["identifier", "{% t a b %}", "a", "b"]
+static ROWS: &str = r#"["identifier", "{% t a b %}", "a", "b"]
 ["identifier", "{% t a.b c %}", "liquid: Unexpected token (line 1, column 6)", "a.b / c"]
 ["identifier", "{% t 'a' %}", "liquid: Unexpected token (line 1, column 6)", "'a'"]
 ["identifier", "{% t %}", "liquid: Token expected (line 1, column 5)", ""]
@@ -77,13 +83,27 @@ const ROWS: &str = r#"["identifier", "{% t a b %}", "a", "b"]
 ["chain", "{% t (1..2) %}", "liquid: Unexpected token (line 1, column 6)", "(1..2)"]
 ["chain", "{% t %}", "liquid: Token expected (line 1, column 5)", ""]"#;
 
+/// The next token is taken as what is expected.
+struct TakenTokens;
+
+impl Check for TakenTokens {
+    fn check<F, T, B>(&self, alloc: Global, language: &Language<F, T, B>) -> Result<(), Fail>
+    where
+        F: ParseFilter + Drop,
+        T: ParseTag<F> + Drop,
+        B: ParseBlock<F> + Drop,
+        T::Node: Renderable<()>,
+        B::Node: Renderable<()>,
+    {
+        for row in ROWS.lines() {
+            let is_taken = is_taken(alloc, &Line::of(alloc, row)?, &language.filters)?;
+            holds(is_taken, row)?;
+        }
+        Ok(())
+    }
+}
+
 #[test]
 fn the_next_token_is_taken_as_what_is_expected(rt: HostRuntime) -> Result<(), Fail> {
-    let alloc = rt.alloc();
-    let language = language(alloc)?;
-    rows_hold(
-        alloc,
-        ROWS,
-        |alloc, row| is_taken(alloc, row, &language.filters),
-    )
+    check_language(rt.alloc(), &TakenTokens)
 }

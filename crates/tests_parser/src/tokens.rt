@@ -96,7 +96,8 @@ fn kinds(alloc: Global, token: TagToken<'_>) -> Result<String, AllocError> {
 
 /// Returns `true` if a row has the tokens of its tag, or its error.
 fn has_tokens(alloc: Global, row: &Line) -> Result<bool, Fail> {
-    Ok(texts(alloc, row.text(0)?)?.as_str() == row.text(1)?)
+    let (tag, answer) = (row.text(0)?, row.text(1)?);
+    Ok(texts(alloc, tag)?.as_str() == answer)
 }
 
 /// A tag, and its tokens, or its error.
@@ -156,13 +157,11 @@ fn has_one_token(alloc: Global, text: &str) -> Result<bool, Error> {
 
 /// Returns `true` if a row has the kinds of the only token of its tag, which can be raised as an error.
 fn is_of_kinds(alloc: Global, row: &Line) -> Result<bool, Fail> {
-    let text = row.text(0)?;
+    let (text, letters) = (row.text(0)?, row.text(1)?);
     let refusal = "liquid: Unexpected token (line 1, column 6)";
-    Ok(
-        has_kinds(alloc, text, row.text(1)?)?
-            && is_raised(alloc, text, refusal)?
-            && has_one_token(alloc, text)?,
-    )
+    let has_kinds = has_kinds(alloc, text, letters)?;
+    let is_raised = is_raised(alloc, text, refusal)?;
+    Ok(has_one_token(alloc, text)? & has_kinds & is_raised)
 }
 
 /// A tag, and the letters of the kinds of its token.

@@ -1,6 +1,6 @@
 //! Texts that should be one variable.
 use crate::made::{expression, part_in, part_of, parts_in, text};
-use crate::told::told;
+use crate::told::is_told;
 use liquid_core::model::Scalar;
 use liquid_core::parser::parse_variable;
 use liquid_plugins::Expression;
@@ -21,20 +21,31 @@ fn index_in(alloc: Global, given: &Json) -> Result<Expression, Fail> {
     }
 }
 
+/// Puts the indexes that a row gives after others.
+fn push_indexes(
+    alloc: Global,
+    indexes: &mut Vec<Expression>,
+    given: &Vec<Json>,
+) -> Result<(), Fail> {
+    for index in given {
+        indexes.push(index_in(alloc, index)?)?;
+    }
+    Ok(())
+}
+
 /// Returns the variable of a row's name and indexes.
 fn variable_in(alloc: Global, row: &Line) -> Result<Expression, Fail> {
+    let (name, given) = (row.text(1)?, row.list(2)?);
+    let name = Scalar::from(text(alloc, name)?);
     let mut indexes = Vec::new(alloc);
-    for given in row.list(2)? {
-        indexes.push(index_in(alloc, given)?)?;
-    }
-    let name = Scalar::from(text(alloc, row.text(1)?)?);
+    push_indexes(alloc, &mut indexes, given)?;
     Ok(Expression::of_parts(name, indexes))
 }
 
 /// Returns `true` if a row's text is parsed as the row's variable.
 fn is_parsed(alloc: Global, row: &Line) -> Result<bool, Fail> {
-    let variable = parse_variable(alloc, row.text(0)?)?;
-    Ok(Expression::Variable(variable) == variable_in(alloc, row)?)
+    let variable = variable_in(alloc, row)?;
+    Ok(Expression::Variable(parse_variable(alloc, row.text(0)?)?) == variable)
 }
 
 /// A text, and the name and the indexes of the variable that it is.
@@ -48,17 +59,17 @@ fn whole_texts_are_variables(rt: HostRuntime) -> Result<(), Fail> {
     rows_hold(rt.alloc(), VARIABLES, is_parsed)
 }
 
-/// Returns the first line of the error of a text that is not a variable.
-fn refusal(alloc: Global, text: &str) -> Result<String, AllocError> {
+/// Returns `true` if a text is not a variable, and this is the first line of the error.
+fn is_refused_as(alloc: Global, text: &str, refusal: &str) -> Result<bool, AllocError> {
     match parse_variable(alloc, text) {
-        Ok(_) => String::from_str(alloc, "a variable"),
-        Err(error) => told(alloc, &error),
+        Ok(_) => Ok(false),
+        Err(error) => is_told(alloc, &error, refusal),
     }
 }
 
 /// Returns `true` if a row's text has the error of the row.
 fn is_refused(alloc: Global, row: &Line) -> Result<bool, Fail> {
-    Ok(refusal(alloc, row.text(0)?)?.as_str() == row.text(1)?)
+    Ok(is_refused_as(alloc, row.text(0)?, row.text(1)?)?)
 }
 
 /// A text that is not a variable as a whole, and its error.

@@ -1,7 +1,7 @@
 //! Sites with a partial whose text has a fault.
 
 /// Sites, each with an error where its partial is requested.
-pub(crate) const FAULTY: &str =
+pub(crate) static FAULTY: &str =
     r#"{"template": "{% assign x = 1 %}a{% increment c %}{% include \"bad\" %}b", "partials": [["bad", "é{% if k %}{% assign k = '2' %}{% else %}{% elsif true %}é{% endif %}"]], "written": "a0", "error": "liquid: Divider after else (line 1, column 50)\nfrom: include bad\n", "assigned": {"x": "1"}, "counted": {"c": "1"}}
 {"template": "{% for i in (1..3) %}{{ i }}{% if i == n %}{% render \"bad\", x: i %}{% endif %}{% assign s = i %}{% increment d %}{% endfor %}{% assign x = 1 %}", "data": {"n": 2}, "partials": [["bad", "{{ k }}{{ false }}{% if b == i %}{% if i %}-{% endif %}{% elsif a[-1] == z[-1] %}é{% else %}{% elsif true %}{{ 2 }}{% endif %}"]], "written": "102", "error": "liquid: Divider after else (line 1, column 101)\nfrom: render bad\n", "assigned": {"s": "1"}, "counted": {"d": "1"}}
 {"template": "{{ l[0] }}{% include \"outer\", k: 1 %}", "data": {"l": ["q"], "n": 5}, "partials": [["bad", "{% if \"\" != l.k %}{% include \"q\", n: 2 %}{% else %}{% elsif true %}{% include \"p\" %}{% endif %}{% render \"p\", x: a, b: nil %}{% for x in %}{% assign b = o | append : x: 1 %}{% endfor %}"], ["outer", "{{ k }}{% assign a = l %}{% render \"bad\" %}z"]], "written": "q1", "error": "liquid: Divider after else (line 1, column 60)\nfrom: render bad\nfrom: include outer\n", "assigned": {"a": "[q, ]"}}

@@ -2,7 +2,7 @@
 //! parent, whatever frames are open in between, and whatever the parent knows of it.
 
 /// Names of the sandbox, and names that are around it alone.
-pub(crate) const NAMES: &str =
+pub(crate) static NAMES: &str =
     r#"{"template": "{{ b }}{% assign g = 5 %}", "data": {"b": 2}, "written": "2", "assigned": {"g": "5"}}
 {"template": "a{{ s }}", "written": "a"}
 {"template": "{% assign s = 9 %}{{ s }}", "written": "", "assigned": {"s": "9"}}
@@ -16,7 +16,7 @@ pub(crate) const NAMES: &str =
 
 /// Conditions and loops: nil is equal to nil and to a state, has no order, is not truthy and has no items, and is not a
 /// whole number.
-pub(crate) const BLOCKS: &str =
+pub(crate) static BLOCKS: &str =
     r#"{"template": "{% if y == nil %}a{% endif %}{% if y == blank %}b{% endif %}{% if y < 1 %}c{% else %}d{% endif %}{% if y %}e{% endif %}", "written": "abd"}
 {"template": "{% if x.y != 1 %}a{% endif %}{% if false == x.z %}b{% endif %}{% if x.z %}c{% elsif x.a %}d{% endif %}", "data": {"x": {"a": 1}}, "written": "abd"}
 {"template": "{% for i in y %}a{% else %}b{% endfor %}", "written": "b"}
@@ -29,7 +29,7 @@ pub(crate) const BLOCKS: &str =
 {"template": "{% for i in x %}{{ i }}{{ i[y] }}{% endfor %}", "data": {"x": [1]}, "written": "1", "error": "liquid: Expected scalar\n  with:\n    found=nil\n"}"#;
 
 /// Partials.
-pub(crate) const PARTIALS: &str =
+pub(crate) static PARTIALS: &str =
     r#"{"template": "{% include \"p\" %}", "data": {"b": 2}, "partials": [["k", "{{ i }}{% assign h = i %}{% increment c %}{{ t }}"], ["p", "p{{ b }}{% assign x = 7 %}"], ["r", "{{ y }}r{{ x[y] }}"]], "written": "p2", "assigned": {"x": "7"}}
 {"template": "{% include \"p\" %}", "partials": [["k", "{{ i }}{% assign h = i %}{% increment c %}{{ t }}"], ["p", "p{{ b }}{% assign x = 7 %}"], ["r", "{{ y }}r{{ x[y] }}"]], "written": "p", "assigned": {"x": "7"}}
 {"template": "{% render \"p\" %}", "data": {"b": 2}, "partials": [["k", "{{ i }}{% assign h = i %}{% increment c %}{{ t }}"], ["p", "p{{ b }}{% assign x = 7 %}"], ["r", "{{ y }}r{{ x[y] }}"]], "written": "p", "assigned": {"x": "7"}}

@@ -2,7 +2,7 @@
 //! parent, whatever frames are open in between, and whatever the parent knows of it.
 
 /// Names of the sandbox, and names that are around it alone.
-pub(crate) const NAMES: &str =
+pub(crate) static NAMES: &str =
     r#"{"template": "{{ b }}{% set g 5 %}", "data": {"b": 2}, "written": "2", "assigned": {"g": "5"}}
 {"template": "a{{ s }}", "written": "a"}
 {"template": "{% set s 9 %}{{ s }}", "written": "", "assigned": {"s": "9"}}
@@ -21,7 +21,7 @@ pub(crate) const NAMES: &str =
 {"template": "{% set g y %}{{ g }}", "written": "", "assigned": {"g": "nil"}}"#;
 
 /// An unknown index is nil, which is not a scalar.
-pub(crate) const INDEXES: &str =
+pub(crate) static INDEXES: &str =
     r#"{"template": "{{ x[y] }}", "data": {"x": {"z": 1}}, "written": "", "error": "liquid: Expected scalar\n  with:\n    found=nil\n"}
 {"template": "{{ x[y] }}", "written": "", "error": "liquid: Expected scalar\n  with:\n    found=nil\n"}
 {"template": "a{{ x[t] }}", "data": {"x": {"T": 1}}, "written": "a", "error": "liquid: Expected scalar\n  with:\n    found=nil\n"}
@@ -36,7 +36,7 @@ pub(crate) const INDEXES: &str =
 {"template": "{{ \"a\" | append: x[y] }}", "written": "", "error": "liquid: Expected scalar\n  with:\n    found=nil\nfrom: Filter error\n  with:\n    filter=append\n    input=\"a\"\n"}"#;
 
 /// Frames inside the sandbox, and partials.
-pub(crate) const FRAMES: &str =
+pub(crate) static FRAMES: &str =
     r#"{"template": "{% glob %}{% set g 1 %}{{ g }}{% endglob %}{{ g }}", "written": "1"}
 {"template": "{% with x 1 %}{% sbox %}{{ x }}{% endsbox %}{% endwith %}", "written": ""}
 {"template": "{% sbox %}{% set g 1 %}{% endsbox %}{% with g 2 %}{{ g }}{% endwith %}", "written": "2", "assigned": {"g": "1"}}

@@ -1,7 +1,7 @@
 //! Sites whose names are lenient.
 
 /// Sites, few of which have an error.
-pub(crate) const LENIENT: &str =
+pub(crate) static LENIENT: &str =
     r#"{"template": "{% for i in (n..2) %}{% if i == i %}{% continue %}{% endif %}{% for x in l %}{% raw %}{{ a }}{% if %}{% endraw %}{% else %}{{ k[-1] }}{% endfor %}{% endfor %}", "data": {"n": 2, "k": [], "a": false, "l": [1, 2, 3]}, "written": ""}
 {"template": "{% if nil < '2' %}{{ i | append: blank }}{% else %}{% assign n = i %}{% endif %}{% for k in (2..1) %}{% if forloop.first < n.first %}{{ z | append: n }}{% elsif a <> empty %}{% increment c %}{% else %}a{% endif %}{% endfor %}", "data": {"n": 1, "k": 2, "i": ""}, "written": "", "assigned": {"n": "\"\""}}
 {"template": "{% if -1 < k %}{{ z }}{% elsif i[\"k\"] < nil %}{% for k in (1..3) %}{% if 1 >= i.index %}{% continue %}{% endif %}{% for i in (2..1) %}{% increment c %}{% endfor %}{% if b %}{{ 2 }}{% else %}{% if s <= o %}z{% else %}{% include \"q\" %}{{ 1 }}z{% endif %}{% endif %}{% endfor %}{% elsif x != forloop.index0 %}{% render \"q\", a: o, k: i %}{% raw %}{{ a }}{% if %}{% endraw %}{% endif %}", "data": {"s": {"k": 1}, "x": -1, "k": "k", "b": 0, "o": {"k": 1}}, "partials": [["p", "z"], ["q", "\nz{% increment d %}"]], "written": "\nz0{{ a }}{% if %}", "counted": {"d": "1"}}

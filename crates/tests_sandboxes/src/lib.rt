@@ -26,3 +26,5 @@ mod site_rows;
 mod sites;
 #[cfg(test)]
 mod strangers;
+#[cfg(test)]
+mod tables;

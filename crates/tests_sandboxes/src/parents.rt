@@ -30,16 +30,16 @@ pub(crate) type Over<P> = BuiltRuntime<Visits, P>;
 /// The parents of a table, a row each: globals, assigned names, what the register counts, the interrupt that is set,
 /// if there is one, and an index variable, which is 3. One has no name, and the globals and assigned names of the other
 /// hide the names of the sites.
-pub(crate) const EMPTY_OR_FULL: &str = r#"[{}, {}, 0, "", "spare"]
+pub(crate) static EMPTY_OR_FULL: &str = r#"[{}, {}, 0, "", "spare"]
 [{"a": "A", "b": [9], "c": 41, "e": ["E"], "forloop": {"index": 8}, "i": 17, "k": {"k": "K"}, "l": ["L", "M"]}, {"a": 70, "d": 42, "h": 9, "n": "1", "o": ["O"], "s": "S", "t": 1, "unknown": [5, 6], "x": true, "z": "Z"}, 7, "break", "spare"]"#;
 
 /// The parents of rows whose names are lenient.
-pub(crate) const LENIENT: &str = r#"[{}, {}, 0, "", "n"]
+pub(crate) static LENIENT: &str = r#"[{}, {}, 0, "", "n"]
 [{"x": 10, "t": "T", "y": "z"}, {"s": "S", "g": 11}, 0, "continue", "n"]
 [{"b": 12, "n": 13}, {"t": 14, "x": null, "y": 0}, 0, "", "n"]"#;
 
 /// The parents of rows in the language of the test plug-ins.
-pub(crate) const STRICT: &str = r#"[{}, {}, 0, "", "n"]
+pub(crate) static STRICT: &str = r#"[{}, {}, 0, "", "n"]
 [{"x": 10, "t": "T"}, {"s": "S", "g": 11}, 0, "continue", "n"]
 [{"b": 12, "n": 13}, {"t": 14, "x": null}, 0, "", "n"]"#;
 
@@ -53,6 +53,48 @@ fn names(alloc: Global, parent: &Line, place: usize) -> Result<Object, Fail> {
     Ok(to_object(alloc, parent.member(place)?)?)
 }
 
+/// Returns a runtime of these globals over a store.
+fn built<P: Drop>(alloc: Global, globals: Object, store: P, is_lenient: bool) -> Over<P> {
+    RuntimeBuilder::new(alloc)
+        .set_globals(globals)
+        .set_partials(store)
+        .set_lenient(is_lenient)
+        .build()
+}
+
+fn assign<R: Runtime>(names: Object, runtime: &mut R) -> Result<(), Error> {
+    for (name, value) in names {
+        runtime.set_global(name, value)?;
+    }
+    Ok(())
+}
+
+/// Sets the registers that a parent's row says.
+fn set_registers<R>(runtime: &mut R, count: u8, interrupt: &str)
+where
+    R: Runtime<Register = Visits>,
+{
+    let registers = runtime.registers_mut();
+    registers.value.count = count;
+    match interrupt {
+        "break" => registers.interrupt.set(Interrupt::Break),
+        "continue" => registers.interrupt.set(Interrupt::Continue),
+        _ => {}
+    }
+}
+
+/// Assigns and sets in a runtime what a parent's row says.
+fn fill<R>(alloc: Global, parent: &Line, runtime: &mut R) -> Result<(), Fail>
+where
+    R: Runtime<Register = Visits>,
+{
+    assign(names(alloc, parent, 1)?, runtime)?;
+    set_index(alloc, runtime, parent.text(4)?)?;
+    let (count, interrupt) = (u8::try_from(parent.number(2)?)?, parent.text(3)?);
+    set_registers(runtime, count, interrupt);
+    Ok(())
+}
+
 /// Returns a parent over a store, lenient if the row says so.
 pub(crate) fn over<P: Drop>(
     alloc: Global,
@@ -60,22 +102,9 @@ pub(crate) fn over<P: Drop>(
     row: &Row,
     store: P,
 ) -> Result<Over<P>, Fail> {
-    let mut runtime: Over<P> = RuntimeBuilder::new(alloc)
-        .set_globals(names(alloc, parent, 0)?)
-        .set_partials(store)
-        .set_lenient(row.is_lenient())
-        .build();
-    for (name, value) in names(alloc, parent, 1)? {
-        runtime.set_global(name, value)?;
-    }
-    set_index(alloc, &mut runtime, parent.text(4)?)?;
-    let registers = runtime.registers_mut();
-    registers.value.count = u8::try_from(parent.number(2)?)?;
-    match parent.text(3)? {
-        "break" => registers.interrupt.set(Interrupt::Break),
-        "continue" => registers.interrupt.set(Interrupt::Continue),
-        _ => {}
-    }
+    let globals = names(alloc, parent, 0)?;
+    let mut runtime = built(alloc, globals, store, row.is_lenient());
+    fill(alloc, parent, &mut runtime)?;
     Ok(runtime)
 }
 
@@ -117,10 +146,11 @@ fn is_told(
     after: Option<&Value>,
 ) -> Result<bool, AllocError> {
     let left = shown(alloc, after)?;
-    match told {
-        Some(told) => Ok(left.as_str() == told),
-        None => Ok(left.as_str() == shown(alloc, before)?.as_str()),
-    }
+    let is_told = match told {
+        Some(told) => left.as_str() == told,
+        None => left.as_str() == shown(alloc, before)?.as_str(),
+    };
+    Ok(is_told)
 }
 
 /// Returns `true` if the names are what a row leaves. A name that is counted is seen if it has no other value.
@@ -168,9 +198,8 @@ pub(crate) fn is_left<R: Runtime<Register = Visits>>(
     before: &Over<()>,
     after: &R,
 ) -> Result<bool, Fail> {
-    Ok(
-        has_registers(parent, row, after)?
-            && are_names_left(alloc, row, before, after)?
-            && are_indexes_left(alloc, row, before, after)?,
-    )
+    let has_registers = has_registers(parent, row, after)?;
+    let are_names_left = are_names_left(alloc, row, before, after)?;
+    let are_indexes_left = are_indexes_left(alloc, row, before, after)?;
+    Ok(has_registers && are_names_left && are_indexes_left)
 }

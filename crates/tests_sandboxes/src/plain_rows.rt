@@ -1,7 +1,7 @@
 //! Rows in the language of the test plug-ins, over strict names.
 
 /// Names of the sandbox, frames in it, and partials.
-pub(crate) const ROWS: &str =
+pub(crate) static ROWS: &str =
     r#"{"template": "{{ b }}{% set g 5 %}", "data": {"b": 2}, "written": "2", "assigned": {"g": "5"}}
 {"template": "a{{ s }}", "written": "a", "error": "liquid: Unknown variable\n  with:\n    requested variable=s\n"}
 {"template": "{% set s 9 %}{{ s }}", "written": "", "error": "liquid: Unknown variable\n  with:\n    requested variable=s\n", "assigned": {"s": "9"}}

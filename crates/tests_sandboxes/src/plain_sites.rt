@@ -1,7 +1,7 @@
 //! Sites that are written whole.
 
 /// Sites over strict names.
-pub(crate) const PLAIN: &str =
+pub(crate) static PLAIN: &str =
     r#"{"template": "\n{% raw %}{{ a }}{% if %}{% endraw %}{% for x in (0..n) %}{% if nil > 2 %}{% continue %}{% endif %}{% else %}{{ forloop.rindex }}{% endfor %}", "data": {"a": "2", "x": 2, "n": 1}, "written": "\n{{ a }}{% if %}"}
 {"template": "{% increment d %}{% if true %}{% increment c %}{% elsif \"\" >= false %}{% for i in l.first %}{% if 0 %}{% break %}{% endif %}{% else %}{% assign o = true | append: s %}{% include \"q\", l: k, k: z %}{% endfor %}{% else %}{{ x }},{% endif %}", "data": {"s": "", "x": {"k": "s"}, "l": [], "k": true, "o": {"k": 1}}, "partials": [["p", "z{% assign i = s %}"], ["q", "{{ b }}"]], "written": "00", "counted": {"d": "1", "c": "1"}}
 {"template": "a{% increment c %}{% for i in e %}b{% if 1 >= l.size %}b{% continue %}c{% endif %}{% if \"é\" != \"\" %}b{{ \"é\" | append: z }}{% endif %}{% if 2 < l.size %}b{% break %}c{% endif %}{% else %}b{% assign a = a %}{% raw %}{{ a }}{% if %}{% endraw %}é{% endfor %}", "data": {"a": 0, "b": 1, "z": "2", "l": [1, 2], "e": []}, "written": "a0b{{ a }}{% if %}é", "assigned": {"a": "0"}, "counted": {"c": "1"}}

@@ -1,7 +1,7 @@
 //! Sites with an error: what was written and left before stays.
 
 /// Sites over strict names.
-pub(crate) const REFUSED: &str =
+pub(crate) static REFUSED: &str =
     r#"{"template": "{% for i in (2..1) %}{% increment d %}{% for x in e %}{% for k in l.first %},{% endfor %}{{ a | append: k }}{% raw %}{{ a }}{% if %}{% endraw %}{% endfor %}{% endfor %}-{% if n <> i %}a{% elsif s <> empty %}{% assign n = k.index %}{% endif %}", "data": {"k": null, "l": [1, 2], "a": 1, "e": [], "n": 2}, "written": "-", "error": "liquid: Unknown variable\n  with:\n    requested variable=i\n"}
 {"template": "{% if l <> blank %}{% render \"p\" %}{% else %}{% for k in l.first %}{% increment n %}{% endfor %}{% raw %}{{ a }}{% if %}{% endraw %}{% endif %}{% increment c %}", "data": {"x": ["s", "s"], "s": "s", "a": true, "l": [1], "n": 2}, "partials": [["p", "é{% increment d %}{% include \"q\", x: s %}"], ["q", "{% raw %}{{ a }}{% if %}{% endraw %}"]], "written": "é0", "error": "liquid: Unknown variable\n  with:\n    requested variable=s\nfrom: render p\n", "counted": {"d": "1"}}
 {"template": "{% if o <= k %}{% if 3 == a %}{{ nil }}{% if true >= forloop.index %} {% else %}{% include \"q\", s: true %}{% endif %}{% else %}{{ 2 }}{{ forloop.rindex0 }}{% endif %}\n{% for i in e %}{% if 0 == forloop.length %}{% continue %}{% endif %}{% endfor %}{% endif %}{% include \"q\", a: l %}{% for x in (2..1) %}\n{% assign l = b | append: \"\" %}{% endfor %}", "data": {"o": {"k": 1}, "s": "", "x": {"k": "s"}, "b": [true, 2], "l": [], "e": [], "n": 2}, "partials": [["p", "z\n"], ["q", "{% increment n %}z"]], "written": "", "error": "liquid: Unknown variable\n  with:\n    requested variable=k\n"}

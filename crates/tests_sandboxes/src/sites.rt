@@ -1,53 +1,34 @@
 //! Rows in sandboxes over each parent and both forms of scopes, in any language over any store.
 ghost use Rattle.std.specs.Prelude.{◌≡◌};
 
-use crate::kinds::{Eager, Kind, Lazy, OnDemand, Plain};
+use crate::kinds::{Kind, source};
 use crate::parents::{Over, Visits, is_left, over};
 use liquid_core::model::{Object, Value, to_object};
-use liquid_core::runtime::{ChainedScopes, FlatScopes, Frame, Scopes, Template};
+use liquid_core::parser::{Language, ParseBlock, ParseFilter, ParseTag, parse};
+use liquid_core::runtime::{ChainedScopes, FlatScopes, Frame, Runtime, Scopes, Template};
 use liquid_core::{Discreet, Error, Filter, PartialStore, TextSink};
 use std::alloc::{AllocError, Global};
+use std::rc::Rc;
 use std::test::Fail;
 use tests_lines::{Line, Row};
 
 /// A row, one of its parents, and what that parent is before the row is rendered.
-#[derive(Drop)]
+#[derive(Clone, Copy)]
 struct Place<'a> {
     row: &'a Row,
     parent: &'a Line,
-    before: Over<()>,
+    before: &'a Over<()>,
 }
 
-impl Place<'_> {
-    /// Returns `true` if the row is rendered in isolation, and not in a sandbox.
-    fn is_isolated(&self) -> bool {
-        self.row.member("isolated").is_some()
-    }
-
-    /// Returns `true` if a call wrote what the row says, has the row's error, and left of the parent what the row says.
-    fn holds<P: Drop>(
-        &self,
-        alloc: Global,
-        sink: &TextSink,
-        answer: &Result<(), Error>,
-        after: &Over<P>,
-    ) -> Result<bool, Fail> {
-        let error = match answer {
-            Ok(()) => String::new(alloc),
-            Err(error) => error.to_string(alloc)?,
-        };
-        Ok(
-            sink.as_bytes() == self.row.written().as_bytes()
-                && error.as_str() == self.row.error()
-                && is_left(alloc, self.parent, self.row, &self.before, after)?,
-        )
-    }
+/// Returns `true` if a row is rendered in isolation, and not in a sandbox.
+fn is_isolated(row: &Row) -> bool {
+    row.member("isolated").is_some()
 }
 
 /// Returns the names that a row is given.
-pub(crate) fn data(alloc: Global, row: &Row) -> Result<Object, Fail> {
+pub(crate) fn data(alloc: Global, row: &Row) -> Result<Object, Error> {
     match row.member("data") {
-        Some(data) => Ok(to_object(alloc, data)?),
+        Some(data) => to_object(alloc, data),
         None => Ok(Object::new(alloc)),
     }
 }
@@ -61,37 +42,74 @@ fn outer(alloc: Global) -> Result<Object, AllocError> {
     Ok(outer)
 }
 
-/// Returns `true` if a row passes with `render_sandboxed`, or with `render_isolated`.
-fn holds_at_once<X, T, B, P>(
+/// Returns `true` if a call has the error of a row, or none if the row has none.
+fn has_error(alloc: Global, row: &Row, answer: &Result<(), Error>) -> Result<bool, AllocError> {
+    match answer {
+        Ok(()) => Ok(row.error().is_empty()),
+        Err(error) => Ok(error.to_string(alloc)?.as_str() == row.error()),
+    }
+}
+
+/// Returns `true` if a call wrote what its row says, has the row's error, and left of the parent what the row says.
+fn is_as_told<R: Runtime<Register = Visits>>(
     alloc: Global,
-    place: &Place<'_>,
+    place: Place<'_>,
+    written: &[u8],
+    answer: &Result<(), Error>,
+    after: &R,
+) -> Result<bool, Fail> {
+    let has_error = has_error(alloc, place.row, answer)?;
+    let is_left = is_left(alloc, place.parent, place.row, place.before, after)?;
+    Ok(written == place.row.written().as_bytes() && has_error && is_left)
+}
+
+/// Renders a row in a sandbox or in isolation over its parent.
+fn render<X, T, B, R>(
+    alloc: Global,
+    row: &Row,
     page: &Template<X, T, B>,
-    store: P,
+    sink: &mut TextSink,
+    parent: &mut R,
+) -> Result<(), Error>
+where
+    X: Filter,
+    T: Discreet<Visits>,
+    B: Discreet<Visits>,
+    R: Runtime<Register = Visits>,
+    R::Store: PartialStore<X, T, B>,
+{
+    let data = data(alloc, row)?;
+    if is_isolated(row) {
+        page.render_isolated(alloc, sink, parent, data, None)
+    } else {
+        page.render_sandboxed(alloc, sink, parent, data, None)
+    }
+}
+
+/// Returns `true` if a row passes with `render_sandboxed`, or with `render_isolated`.
+fn holds_at_once<X, T, B, R>(
+    alloc: Global,
+    place: Place<'_>,
+    page: &Template<X, T, B>,
+    mut parent: R,
 ) -> Result<bool, Fail>
 where
     X: Filter,
     T: Discreet<Visits>,
     B: Discreet<Visits>,
-    P: PartialStore<X, T, B> + Drop,
+    R: Runtime<Register = Visits> + Drop,
+    R::Store: PartialStore<X, T, B>,
 {
-    let mut after = over(alloc, place.parent, place.row, store)?;
     let mut sink = TextSink::new(alloc);
-    let data = data(alloc, place.row)?;
-    let answer = if place.is_isolated() {
-        page.render_isolated(alloc, &mut sink, &mut after, data, None)
-    } else {
-        page.render_sandboxed(alloc, &mut sink, &mut after, data, None)
-    };
-    place.holds(alloc, &sink, &answer, &after)
+    let answer = render(alloc, place.row, page, &mut sink, &mut parent);
+    is_as_told(alloc, place, sink.as_bytes(), &answer, &parent)
 }
 
-/// Renders a page in a sandbox or in isolation over a frame that is opened for it.
-fn render_over_a_frame<S, X, T, B>(
+/// Renders a row in a sandbox or in isolation over open scopes.
+fn render_in<S, X, T, B>(
     alloc: Global,
+    row: &Row,
     page: &Template<X, T, B>,
-    is_isolated: bool,
-    data: Object,
-    outer: Object,
     sink: &mut TextSink,
     scopes: &mut S,
 ) -> Result<(), Error>
@@ -103,23 +121,41 @@ where
     S::Store: PartialStore<X, T, B>,
     ensures { S.restores scopes.new ≡ S.restores scopes.old }
 {
-    scopes.push(Frame::Stack(outer, None))?;
-    let answer = if is_isolated {
+    let data = data(alloc, row)?;
+    if is_isolated(row) {
         page.render_isolated_in(alloc, sink, scopes, data, Some("page"))
     } else {
         page.render_sandboxed_in(alloc, sink, scopes, data, Some("page"))
-    };
+    }
+}
+
+/// Renders a row over a frame that is opened for it.
+fn render_over_a_frame<S, X, T, B>(
+    alloc: Global,
+    row: &Row,
+    page: &Template<X, T, B>,
+    sink: &mut TextSink,
+    scopes: &mut S,
+) -> Result<(), Error>
+where
+    S: Scopes<Register = Visits>,
+    X: Filter,
+    T: Discreet<Visits>,
+    B: Discreet<Visits>,
+    S::Store: PartialStore<X, T, B>,
+    ensures { S.restores scopes.new ≡ S.restores scopes.old }
+{
+    scopes.push(Frame::Stack(outer(alloc)?, None))?;
+    let answer = render_in(alloc, row, page, sink, scopes);
     scopes.pop();
     answer
 }
 
-/// Renders a page in a sandbox or in isolation over a frame that is open, and returns the base again.
+/// Renders a row over a frame that is open in scopes of one form, and returns their base again.
 fn rendered_over_a_frame<S, X, T, B>(
     alloc: Global,
+    row: &Row,
     page: &Template<X, T, B>,
-    is_isolated: bool,
-    data: Object,
-    outer: Object,
     sink: &mut TextSink,
     base: S::Base,
 ) -> (Result<(), Error>, S::Base)
@@ -131,131 +167,119 @@ where
     S::Store: PartialStore<X, T, B>,
 {
     let mut scopes = S::new(alloc, base);
-    let answer = render_over_a_frame(alloc, page, is_isolated, data, outer, sink, &mut scopes);
+    let answer = render_over_a_frame(alloc, row, page, sink, &mut scopes);
     (answer, scopes.into_base())
 }
 
 /// Returns `true` if a row passes with `render_sandboxed_in`, or with `render_isolated_in`, over scopes of one form and
 /// a frame that is open.
-fn holds_in<S, X, T, B, P>(
+fn holds_in<S, X, T, B>(
     alloc: Global,
-    place: &Place<'_>,
+    place: Place<'_>,
     page: &Template<X, T, B>,
-    store: P,
+    base: S::Base,
 ) -> Result<bool, Fail>
 where
-    S: Scopes<Base = Over<P>, Register = Visits, Store = P>,
+    S: Scopes<Register = Visits>,
+    S::Base: Drop,
     X: Filter,
     T: Discreet<Visits>,
     B: Discreet<Visits>,
-    P: PartialStore<X, T, B> + Drop,
+    S::Store: PartialStore<X, T, B>,
 {
-    let base = over(alloc, place.parent, place.row, store)?;
     let mut sink = TextSink::new(alloc);
-    let (data, outer) = (data(alloc, place.row)?, outer(alloc)?);
     let (answer, after) = rendered_over_a_frame::<S, X, T, B>(
-        alloc,
-        page,
-        place.is_isolated(),
-        data,
-        outer,
-        &mut sink,
-        base,
+        alloc, place.row, page, &mut sink, base,
     );
-    place.holds(alloc, &sink, &answer, &after)
+    is_as_told(alloc, place, sink.as_bytes(), &answer, &after)
 }
 
-/// Returns `true` if a row passes with both calls and both forms of scopes over a parent, each with its own store.
-fn holds_over<K: Kind>(
+/// Returns a place's parent over a store of its own.
+fn parent_over<F, T, B, K>(
     alloc: Global,
-    language: &K::Language,
-    place: &Place<'_>,
-    page: &Template<K::Filter, K::Tag, K::Block>,
-) -> Result<bool, Fail> {
-    let first = K::store(alloc, language, place.row)?;
-    let second = K::store(alloc, language, place.row)?;
-    let third = K::store(alloc, language, place.row)?;
-    Ok(
-        holds_at_once(alloc, place, page, first)?
-            && holds_in::<ChainedScopes<Over<K::Store>>, _, _, _, _>(alloc, place, page, second)?
-            && holds_in::<FlatScopes<Over<K::Store>>, _, _, _, _>(alloc, place, page, third)?,
-    )
+    place: Place<'_>,
+    language: &Rc<Language<F, T, B>>,
+) -> Result<Over<K::Store>, Fail>
+where
+    F: ParseFilter + Drop,
+    T: ParseTag<F> + Drop,
+    B: ParseBlock<F> + Drop,
+    K: Kind<F, T, B>,
+{
+    let store = K::store(alloc, source(alloc, place.row)?, language)?;
+    over(alloc, place.parent, place.row, store)
+}
+
+/// Returns `true` if a row passes with both calls and both forms of scopes over a parent.
+fn holds_over<F, T, B, K>(
+    alloc: Global,
+    place: Place<'_>,
+    language: &Rc<Language<F, T, B>>,
+    page: &Template<F::Filter, T::Node, B::Node>,
+) -> Result<bool, Fail>
+where
+    F: ParseFilter + Drop,
+    T: ParseTag<F> + Drop,
+    B: ParseBlock<F> + Drop,
+    T::Node: Discreet<Visits>,
+    B::Node: Discreet<Visits>,
+    K: Kind<F, T, B>,
+{
+    let parent = parent_over::<F, T, B, K>(alloc, place, language)?;
+    let at_once = holds_at_once(alloc, place, page, parent)?;
+    let parent = parent_over::<F, T, B, K>(alloc, place, language)?;
+    let chained = holds_in::<ChainedScopes<Over<K::Store>>, _, _, _>(alloc, place, page, parent)?;
+    let parent = parent_over::<F, T, B, K>(alloc, place, language)?;
+    let flat = holds_in::<FlatScopes<Over<K::Store>>, _, _, _>(alloc, place, page, parent)?;
+    Ok(at_once && chained && flat)
+}
+
+/// Returns `true` if a parsed row passes over a parent.
+fn holds_within<F, T, B, K>(
+    alloc: Global,
+    row: &Row,
+    parent: &Line,
+    language: &Rc<Language<F, T, B>>,
+    page: &Template<F::Filter, T::Node, B::Node>,
+) -> Result<bool, Fail>
+where
+    F: ParseFilter + Drop,
+    T: ParseTag<F> + Drop,
+    B: ParseBlock<F> + Drop,
+    T::Node: Discreet<Visits>,
+    B::Node: Discreet<Visits>,
+    K: Kind<F, T, B>,
+{
+    let before = over(alloc, parent, row, ())?;
+    let place = Place {
+        row,
+        parent,
+        before: &before,
+    };
+    holds_over::<F, T, B, K>(alloc, place, language, page)
 }
 
 /// Returns `true` if a row passes over each of these parents.
-fn holds<K: Kind>(alloc: Global, row: &Row, parents: &str) -> Result<bool, Fail> {
-    let language = K::language(alloc)?;
-    let page = K::page(alloc, &language, row)?;
+pub(crate) fn holds<F, T, B, K>(
+    alloc: Global,
+    row: &Row,
+    parents: &str,
+    language: &Rc<Language<F, T, B>>,
+) -> Result<bool, Fail>
+where
+    F: ParseFilter + Drop,
+    T: ParseTag<F> + Drop,
+    B: ParseBlock<F> + Drop,
+    T::Node: Discreet<Visits>,
+    B::Node: Discreet<Visits>,
+    K: Kind<F, T, B>,
+{
+    let page = Template::new(parse(alloc, row.template(), language)?);
     for parent in parents.lines() {
         let parent = Line::of(alloc, parent)?;
-        let place = Place {
-            row,
-            parent: &parent,
-            before: over(alloc, &parent, row, ())?,
-        };
-        if !holds_over::<K>(alloc, &language, &place, &page)? {
+        if !holds_within::<F, T, B, K>(alloc, row, &parent, language, &page)? {
             return Ok(false);
         }
     }
     Ok(true)
-}
-
-/// The language that rows are in.
-#[derive(Clone, Copy)]
-pub(crate) enum Rows {
-    /// That of the test plug-ins.
-    Plain,
-    /// That of the tag library.
-    Library,
-}
-
-/// Returns `true` if a row passes in its language, with each kind of store.
-fn holds_in_its_language(
-    alloc: Global,
-    row: &Row,
-    parents: &str,
-    kind: Rows,
-) -> Result<bool, Fail> {
-    match kind {
-        Rows::Plain => holds::<Plain>(alloc, row, parents),
-        Rows::Library => Ok(
-            holds::<OnDemand>(alloc, row, parents)?
-                && holds::<Lazy>(alloc, row, parents)?
-                && holds::<Eager>(alloc, row, parents)?,
-        ),
-    }
-}
-
-/// Fails for the first row that does not pass over these parents, and for a table with another number of rows.
-pub(crate) fn all_hold(
-    alloc: Global,
-    rows: &str,
-    parents: &str,
-    kind: Rows,
-    count: usize,
-) -> Result<(), Fail> {
-    for line in rows.lines() {
-        let row = Row::of(alloc, line)?;
-        if !holds_in_its_language(alloc, &row, parents, kind)? {
-            return Err(Fail::new(format_args!("this row doesn't hold: {line}")));
-        }
-    }
-    tests_lines::holds(rows.lines().count() == count, "a table has all its rows")
-}
-
-/// Does the same of rows whose names are lenient.
-pub(crate) fn all_hold_leniently(
-    alloc: Global,
-    rows: &str,
-    parents: &str,
-    kind: Rows,
-    count: usize,
-) -> Result<(), Fail> {
-    for line in rows.lines() {
-        let row = Row::of(alloc, line)?.leniently();
-        if !holds_in_its_language(alloc, &row, parents, kind)? {
-            return Err(Fail::new(format_args!("this row doesn't hold: {line}")));
-        }
-    }
-    tests_lines::holds(rows.lines().count() == count, "a table has all its rows")
 }

@@ -1,25 +1,21 @@
 //! Pages from bytes: their results, and which fault comes first.
+use liquid_core::Discreet;
+use liquid_core::parser::{Language, NoPlugin, ParseBlock, ParseFilter, ParseTag, PluginRegistry};
 use liquid_pages::{
     PageFault, PageFrame, PageOptions, PageText, PartialBytes, PreparedPage, Rendered,
     prepare_page, render_page, render_prepared,
 };
-use liquid_parser::{Language, NoPlugin};
-use liquid_plugins::PluginRegistry;
-use std::alloc::{AllocError, Global};
+use std::alloc::Global;
 use std::rc::Rc;
 use std::test::Fail;
 
-type PlainLanguage = Language<NoPlugin, NoPlugin, NoPlugin>;
-
-fn language(alloc: Global) -> Result<Rc<PlainLanguage>, AllocError> {
-    Ok(Rc::new(
-        alloc,
-        Language {
-            filters: PluginRegistry::new(alloc),
-            tags: PluginRegistry::new(alloc),
-            blocks: PluginRegistry::new(alloc),
-        },
-    )?)
+/// Returns the language without plug-ins.
+fn language(alloc: Global) -> Language<NoPlugin, NoPlugin, NoPlugin> {
+    Language {
+        filters: PluginRegistry::new(alloc),
+        tags: PluginRegistry::new(alloc),
+        blocks: PluginRegistry::new(alloc),
+    }
 }
 
 /// Returns a word for how the page ended.
@@ -130,61 +126,104 @@ static ROWS: [Row<'static>; 13] = [
     ),
 ];
 
-/// Returns `true` if a row's page ends as the row says, with the output of the row.
-fn is_shown(alloc: Global, language: &Rc<PlainLanguage>, row: &Row<'_>) -> bool {
-    let (text, globals, first_text, second_name, lenient, end, output) = *row;
-    let options = PageOptions {
-        frame: if lenient {
+/// Returns how a row's page is rendered.
+fn options_of(is_lenient: bool) -> PageOptions {
+    PageOptions {
+        frame: if is_lenient {
             PageFrame::Sandboxed
         } else {
             PageFrame::Open
         },
-        lenient,
+        lenient: is_lenient,
         max_turns: None,
         max_bytes: None,
-    };
-    let partials = [
-        PartialBytes {
-            name: b"a",
-            text: first_text,
-        },
-        PartialBytes {
-            name: second_name,
-            text: b"",
-        },
-    ];
-    let mut page = prepare_page(alloc, language, text, &partials);
-    ends_as(
-        &render_page::<(), _, _, _>(alloc, language, options, text, globals, &partials),
-        end,
-        output,
-    ) && is_shown_next(alloc, &mut page, options, globals, end, output)
-        && is_shown_next(alloc, &mut page, options, globals, end, output)
+    }
 }
 
-/// Returns `true` if the next rendering of a page ends so, with this output.
-fn is_shown_next(
-    alloc: Global,
-    page: &mut PreparedPage<NoPlugin, NoPlugin, NoPlugin>,
-    options: PageOptions,
-    globals: &[u8],
-    end: &str,
-    output: &[u8],
-) -> bool {
-    let rendered = render_prepared::<(), _, _, _>(alloc, page, options, globals);
-    ends_as(&rendered, end, output)
-}
-
-/// Returns `true` if a page ends so, with this output.
-fn ends_as(page: &Rendered, end: &str, output: &[u8]) -> bool {
+/// Returns `true` if a page ends as its row says, with the output of the row.
+fn ends_as(page: &Rendered, row: &Row<'_>) -> bool {
+    let (_, _, _, _, _, end, output) = *row;
     end_of(page) == end && page.output.as_bytes() == output
+}
+
+/// Returns `true` if a row's page ends as the row says when it is read and rendered at once.
+fn is_shown_at_once<F, T, B>(
+    alloc: Global,
+    language: &Rc<Language<F, T, B>>,
+    row: &Row<'_>,
+    partials: &[PartialBytes<'_>],
+) -> bool
+where
+    F: ParseFilter + Drop,
+    T: ParseTag<F> + Drop,
+    B: ParseBlock<F> + Drop,
+    T::Node: Discreet<()>,
+    B::Node: Discreet<()>,
+{
+    let (text, globals, _, _, is_lenient, _, _) = *row;
+    let options = options_of(is_lenient);
+    let rendered = render_page::<(), F, T, B>(alloc, language, options, text, globals, partials);
+    ends_as(&rendered, row)
+}
+
+/// Returns `true` if the next rendering of a row's page ends as the row says.
+fn is_shown_next<F, T, B>(alloc: Global, page: &mut PreparedPage<F, T, B>, row: &Row<'_>) -> bool
+where
+    F: ParseFilter + Drop,
+    T: ParseTag<F> + Drop,
+    B: ParseBlock<F> + Drop,
+    T::Node: Discreet<()>,
+    B::Node: Discreet<()>,
+{
+    let (_, globals, _, _, is_lenient, _, _) = *row;
+    let rendered = render_prepared::<(), F, T, B>(alloc, page, options_of(is_lenient), globals);
+    ends_as(&rendered, row)
+}
+
+/// Returns `true` if a row's page ends as the row says, at once and each time that it is rendered once prepared.
+fn is_shown<F, T, B>(
+    alloc: Global,
+    language: &Rc<Language<F, T, B>>,
+    row: &Row<'_>,
+    partials: &[PartialBytes<'_>],
+) -> bool
+where
+    F: ParseFilter + Drop,
+    T: ParseTag<F> + Drop,
+    B: ParseBlock<F> + Drop,
+    T::Node: Discreet<()>,
+    B::Node: Discreet<()>,
+{
+    let (text, _, _, _, _, _, _) = *row;
+    let at_once = is_shown_at_once(alloc, language, row, partials);
+    let mut page = prepare_page(alloc, language, text, partials);
+    let first = is_shown_next(alloc, &mut page, row);
+    let second = is_shown_next(alloc, &mut page, row);
+    at_once & first & second
+}
+
+/// Fails for the first row whose page does not end as the row says.
+fn all_are_shown<F, T, B>(alloc: Global, language: Language<F, T, B>) -> Result<(), Fail>
+where
+    F: ParseFilter + Drop,
+    T: ParseTag<F> + Drop,
+    B: ParseBlock<F> + Drop,
+    T::Node: Discreet<()>,
+    B::Node: Discreet<()>,
+{
+    let language = Rc::new(alloc, language)?;
+    for row in &ROWS {
+        let (_, _, text, name, _, end, _) = *row;
+        let first = PartialBytes { name: b"a", text };
+        let second = PartialBytes { name, text: b"" };
+        if !is_shown(alloc, &language, row, &[first, second]) {
+            return Err(Fail::new(format_args!("a page does not end so: {end}")));
+        }
+    }
+    Ok(())
 }
 
 #[test]
 fn pages_show_their_text_or_the_first_fault(rt: HostRuntime) -> Result<(), Fail> {
-    let language = language(rt.alloc())?;
-    for row in &ROWS {
-        assert!(rt; is_shown(rt.alloc(), &language, row));
-    }
-    Ok(())
+    all_are_shown(rt.alloc(), language(rt.alloc()))
 }

@@ -2,10 +2,11 @@
 ghost use Rattle.std.specs.Prelude.{refl};
 ghost use Rattle.std_marks.specs.meaning.Marks.{marks_of, no_marks};
 
-use liquid_core::parser::PluginRegistry;
+use liquid_core::parser::{Language, ParseBlock, ParseFilter, ParseTag, PluginRegistry};
 use liquid_core::partials::InMemorySource;
+use liquid_core::runtime::Renderable;
 use liquid_core::{
-    BuiltRuntime, Error, Fresh, NoPlugin, Object, Runtime, RuntimeBuilder, TextSink,
+    BuiltRuntime, Error, Fresh, NoPlugin, Object, PartialStore, Runtime, RuntimeBuilder, TextSink,
     render_page_in, render_source,
 };
 use liquid_std::{StdBlocks, StdTags, language};
@@ -13,6 +14,7 @@ use std::alloc::{AllocError, Global};
 use std::test::Fail;
 use std_marks::marks::MarksShape;
 use std_marks::{HoldsMarks, Marks};
+use tests_lines::{holds, same};
 
 /// Marks, and the number of visits.
 #[derive(Drop)]
@@ -60,43 +62,79 @@ impl HoldsMarks for Desk {
     }
 }
 
+/// Returns the standard language without filters.
+fn plain_language(alloc: Global) -> Result<Language<NoPlugin, StdTags, StdBlocks>, AllocError> {
+    language(alloc, PluginRegistry::new(alloc))
+}
+
+/// Counts a visit.
+fn visit<R: Runtime<Register = Desk>>(runtime: &mut R) {
+    let desk = &mut runtime.registers_mut().value;
+    desk.visits = desk.visits.saturating_add(1);
+}
+
 /// Renders a text twice over one desk, with a visit each time.
-fn rendered_twice(alloc: Global, text: &str) -> Result<(TextSink, u8), Error> {
-    let filters: PluginRegistry<NoPlugin> = PluginRegistry::new(alloc);
-    let language = language(alloc, filters)?;
-    let mut runtime: BuiltRuntime<Desk, ()> = RuntimeBuilder::new(alloc).build();
-    let mut sink = TextSink::new(alloc);
+fn render_twice<F, T, B, R>(
+    alloc: Global,
+    text: &str,
+    language: &Language<F, T, B>,
+    runtime: &mut R,
+    sink: &mut TextSink,
+) -> Result<(), Error>
+where
+    F: ParseFilter + Drop,
+    T: ParseTag<F> + Drop,
+    B: ParseBlock<F> + Drop,
+    T::Node: Renderable<Desk>,
+    B::Node: Renderable<Desk>,
+    R: Runtime<Register = Desk>,
+    R::Store: PartialStore<F::Filter, T::Node, B::Node>,
+{
     for _ in 0..2 {
-        runtime.registers_mut().value.visits = runtime.registers().value.visits.saturating_add(1);
-        render_source(alloc, text, &language, &mut runtime, &mut sink)?;
+        visit(runtime);
+        render_source(alloc, text, language, runtime, sink)?;
     }
-    Ok((sink, runtime.registers().value.visits))
+    Ok(())
+}
+
+/// Fails if two pages over one desk do not share its marks, or are not two visits.
+fn keeps_marks_and_visits<R>(alloc: Global, mut runtime: R) -> Result<(), Fail>
+where
+    R: Runtime<Register = Desk, Store = ()> + Drop,
+{
+    let text = "{% cycle 1, 2, 3 %}{% ifchanged %}a{% endifchanged %}";
+    let mut sink = TextSink::new(alloc);
+    render_twice(
+        alloc,
+        text,
+        &plain_language(alloc)?,
+        &mut runtime,
+        &mut sink,
+    )?;
+    same(sink.into_string()?.as_str(), "1a2")?;
+    holds(
+        runtime.registers().value.visits == 2,
+        "a desk keeps its visits",
+    )
 }
 
 #[test]
 fn a_desk_keeps_marks_and_visits(rt: HostRuntime) -> Result<(), Fail> {
-    let (sink, visits) = rendered_twice(
-        rt.alloc(),
-        "{% cycle 1, 2, 3 %}{% ifchanged %}a{% endifchanged %}",
-    )?;
-    assert_eq!(rt; sink.as_bytes(), b"1a2".as_slice());
-    assert_eq!(rt; visits, 2);
-    Ok(())
+    let runtime: BuiltRuntime<Desk, ()> = RuntimeBuilder::new(rt.alloc()).build();
+    keeps_marks_and_visits(rt.alloc(), runtime)
 }
 
 #[test]
 fn a_page_has_a_fresh_desk(rt: HostRuntime) -> Result<(), Fail> {
     let alloc = rt.alloc();
-    let filters: PluginRegistry<NoPlugin> = PluginRegistry::new(alloc);
     let mut sink = TextSink::new(alloc);
     render_page_in::<Desk, NoPlugin, StdTags, StdBlocks, InMemorySource, TextSink>(
         alloc,
         "{% cycle 1, 2 %}{% cycle 1, 2 %}{% ifchanged %}a{% endifchanged %}",
-        language(alloc, filters)?,
+        plain_language(alloc)?,
         Object::new(alloc),
         InMemorySource::new(alloc),
         &mut sink,
     )?;
-    assert_eq!(rt; sink.as_bytes(), b"12a".as_slice());
-    Ok(())
+    same(sink.into_string()?.as_str(), "12a")
 }

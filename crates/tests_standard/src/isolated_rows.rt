@@ -1,6 +1,6 @@
 //! Templates of the standard tags and blocks, each with what it writes in isolation.
 
-pub(crate) const ISOLATED: &str =
+pub(crate) static ISOLATED: &str =
     r#"{"template": "{% for i in nil %}b-{% echo \"s\" %}{% endfor %}{% capture fresh %}x {% for i in unknown %}{{ forloop.index }}{{ i }},é{{- a }}{% if w contains f %}x {{ 3 -}}{{ forloop.index -}}{% else %}é {{ z }}{% endif %}{% endfor %}{% endcapture %}{{ fresh | size }}", "data": {"a": -1, "b": -1, "s": "kk", "z": "s", "x": "a b", "w": ["éa", "Green", "red", "blue"], "f": false}, "is_lenient": true, "written": "2"}
 {"template": "{% raw %}{{ a }}{% if %}{% endraw %}{% comment %}{{ s | nofilter }}{%- endcomment %}{% assign x = s %}", "data": {"a": 0, "s": "Apple", "x": "s"}, "written": "{{ a }}{% if %}"}
 {"template": "{{- 1 }}{% unless t == true or unknown == nil %}b{{ 3 | at_least: 1 -}}{% else %}é{% endunless %}{% unless false and w[0] < \"é\" or x == \"A b\" %}b{% endunless %}", "data": {"b": 3, "x": "Apple", "w": ["éa", "Green", "x", "red"], "t": true}, "is_sandboxed": true, "written": "1éb"}

@@ -1,6 +1,6 @@
 //! Templates of the tag library without `render`, each with what it writes in both languages.
 
-pub(crate) const LIBRARY: &str =
+pub(crate) static LIBRARY: &str =
     r#"{"template": "-a{% for k in (n..2) %}{% assign n = l %}{% else %}{% if forloop.last == true %}{% increment c %}{% endif %}é{% endfor %}", "data": {"k": 2, "a": [3, 3], "l": [1], "n": 1}, "partials": [["p", "{% include \"p\", s: true %}"]], "written": "-a"}
 {"template": "{% include \"p\" %}{% assign k = x | append: true %}{% increment d %}", "data": {"k": {"k": 1}}, "partials": [["p", "{% include \"p\" %}"]], "written": "", "error": "liquid: Partials nest too deep\nfrom: include p\nfrom: include p\nfrom: include p\nfrom: include p\nfrom: include p\nfrom: include p\nfrom: include p\nfrom: include p\nfrom: include p\nfrom: include p\nfrom: include p\nfrom: include p\nfrom: include p\nfrom: include p\nfrom: include p\nfrom: include p\nfrom: include p\nfrom: include p\nfrom: include p\nfrom: include p\nfrom: include p\nfrom: include p\nfrom: include p\nfrom: include p\nfrom: include p\nfrom: include p\nfrom: include p\nfrom: include p\nfrom: include p\nfrom: include p\nfrom: include p\nfrom: include p\nfrom: include p\n"}
 {"template": "{% for k in (n..2) %}{{ forloop.last }}{% endfor %}{% include \"q\", k: i %}-", "data": {"i": 3, "n": 1}, "partials": [["q", "\n{{ -1 }}{% raw %}{{ a }}{% if %}{% endraw %}"]], "written": "falsetrue\n-1{{ a }}{% if %}-"}

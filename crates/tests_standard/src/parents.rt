@@ -12,7 +12,7 @@ pub(crate) type Over<P> = BuiltRuntime<Marks, P>;
 
 /// The parents, a row each: globals, and whether an interrupt is set. One has no name, and the globals of the other hide
 /// the names of the rows.
-pub(crate) const PARENTS: &str = r#"[{}, false]
+pub(crate) static PARENTS: &str = r#"[{}, false]
 [{"a": "A", "b": [9], "d": {"q": 1}, "e": ["E"], "f": true, "forloop": {"index": 8}, "fresh": "F", "here": 5, "i": 17, "l": ["L"], "n": "N", "p": 61, "pages": [], "q": 62, "s": "S", "t": false, "tablerowloop": 4, "unknown": "U", "w": [63], "x": 64, "y": "Y", "z": "Z"}, true]"#;
 
 /// The names that the rows and the parents use.
@@ -46,6 +46,35 @@ fn globals_of(alloc: Global, parent: &Line) -> Result<Object, Fail> {
     Ok(to_object(alloc, parent.member(0)?)?)
 }
 
+/// Returns a runtime of these globals over a store.
+pub(crate) fn built<P: Drop>(
+    alloc: Global,
+    globals: Object,
+    store: P,
+    is_lenient: bool,
+) -> Over<P> {
+    RuntimeBuilder::new(alloc)
+        .set_globals(globals)
+        .set_partials(store)
+        .set_lenient(is_lenient)
+        .build()
+}
+
+/// Sets an index variable that no row uses.
+fn set_spare<R: Runtime>(alloc: Global, runtime: &mut R) -> Result<(), Error> {
+    runtime.set_index(String::from_str(alloc, "spare")?, Value::scalar(3i64))?;
+    Ok(())
+}
+
+/// Sets the index variable and the interrupt of a parent.
+fn fill<R: Runtime>(alloc: Global, parent: &Line, runtime: &mut R) -> Result<(), Fail> {
+    set_spare(alloc, runtime)?;
+    if parent.truth(1)? {
+        runtime.registers_mut().interrupt.set(Interrupt::Continue);
+    }
+    Ok(())
+}
+
 /// Returns a parent over a store, as lenient as the row.
 pub(crate) fn over<P: Drop>(
     alloc: Global,
@@ -53,22 +82,10 @@ pub(crate) fn over<P: Drop>(
     row: &Row,
     store: P,
 ) -> Result<Over<P>, Fail> {
-    let mut runtime: Over<P> = RuntimeBuilder::new(alloc)
-        .set_globals(globals_of(alloc, parent)?)
-        .set_partials(store)
-        .set_lenient(row.is_lenient())
-        .build();
-    set_spare(alloc, &mut runtime)?;
-    if parent.truth(1)? {
-        runtime.registers_mut().interrupt.set(Interrupt::Continue);
-    }
+    let globals = globals_of(alloc, parent)?;
+    let mut runtime = built(alloc, globals, store, row.is_lenient());
+    fill(alloc, parent, &mut runtime)?;
     Ok(runtime)
-}
-
-/// Sets an index variable that no row uses.
-fn set_spare<R: Runtime>(alloc: Global, runtime: &mut R) -> Result<(), Error> {
-    runtime.set_index(String::from_str(alloc, "spare")?, Value::scalar(3i64))?;
-    Ok(())
 }
 
 /// Returns `true` if both are missing, or both are there and the same.
@@ -80,18 +97,24 @@ fn is_same(left: Option<&Value>, right: Option<&Value>) -> bool {
     }
 }
 
-/// Returns `true` if a runtime has the parent's globals, no other name but index variables, and its interrupt.
-pub(crate) fn is_kept<R: Runtime>(alloc: Global, parent: &Line, after: &R) -> Result<bool, Fail> {
-    let globals = globals_of(alloc, parent)?;
+/// Returns `true` if a runtime has these globals, and no other name but index variables.
+fn are_names_kept<R: Runtime>(globals: &Object, after: &R) -> bool {
     for name in NAMES {
         let found = after.try_get_name(name);
         if !is_same(globals.get(name), found) && !is_same(after.get_index(name), found) {
-            return Ok(false);
+            return false;
         }
     }
+    true
+}
+
+/// Returns `true` if a runtime has the parent's globals, no other name but index variables, and its interrupt.
+pub(crate) fn is_kept<R: Runtime>(alloc: Global, parent: &Line, after: &R) -> Result<bool, Fail> {
+    let is_interrupted = parent.truth(1)?;
+    let globals = globals_of(alloc, parent)?;
     let spare = Value::scalar(3i64);
-    Ok(
-        is_same(Some(&spare), after.get_index("spare"))
-            && after.registers().interrupt.interrupted() == parent.truth(1)?,
-    )
+    let is_kept = are_names_kept(&globals, after)
+        && is_same(Some(&spare), after.get_index("spare"))
+        && after.registers().interrupt.interrupted() == is_interrupted;
+    Ok(is_kept)
 }

@@ -1,34 +1,34 @@
 //! Rows in isolation, and in a sandbox if they assign nothing, over each parent.
 use crate::isolated_rows::ISOLATED;
-use crate::parents::{Over, PARENTS, is_kept, over};
-use crate::sources::{data_of, row_of, source_of, whole};
-use liquid_core::TextSink;
-use liquid_core::parser::{Language, parse};
-use liquid_core::partials::{InMemorySource, LazyCompiler, LazyStore, PartialCompiler};
-use liquid_core::runtime::Template;
-use liquid_std::{StdBlock, StdBlocks, StdTag, StdTags, language};
+use crate::parents::{PARENTS, is_kept, over};
+use crate::sources::{data_of, row_of, store_of, whole};
+use liquid_core::parser::{Language, ParseBlock, ParseFilter, ParseTag, parse};
+use liquid_core::runtime::{Runtime, Template};
+use liquid_core::{Discreet, Filter, PartialStore, TextSink};
 use std::alloc::Global;
 use std::rc::Rc;
 use std::test::Fail;
-use std_filters::{FilterCall, FilterPlugin, StdKind, filters};
+use std_filters::filters;
+use std_marks::Marks;
 use tests_lines::{Line, Row};
 
-type StdLanguage = Language<FilterPlugin<StdKind>, StdTags, StdBlocks>;
-
-type Page = Template<FilterCall<StdKind>, StdTag<FilterCall<StdKind>>, StdBlock>;
-
-type Store = LazyStore<InMemorySource, FilterPlugin<StdKind>, StdTags, StdBlocks>;
-
 /// Returns what a row comes to over a parent, in isolation or in a sandbox.
-fn rendered(
+fn rendered<X, T, B, R>(
     alloc: Global,
-    page: &Page,
+    page: &Template<X, T, B>,
     row: &Row,
-    parent: &mut Over<Store>,
+    parent: &mut R,
     is_sandboxed: bool,
-) -> Result<String, Fail> {
-    let mut sink = TextSink::new(alloc);
+) -> Result<String, Fail>
+where
+    X: Filter,
+    T: Discreet<Marks>,
+    B: Discreet<Marks>,
+    R: Runtime<Register = Marks>,
+    R::Store: PartialStore<X, T, B>,
+{
     let data = data_of(alloc, row)?;
+    let mut sink = TextSink::new(alloc);
     let answer = if is_sandboxed {
         page.render_sandboxed(alloc, &mut sink, parent, data, None)
     } else {
@@ -37,34 +37,67 @@ fn rendered(
     whole(alloc, sink, answer)
 }
 
-/// Returns `true` if a page comes to what its row says over a parent, and leaves the parent as it was.
-fn holds_over(
+/// Returns `true` if a page comes to what its row says over a runtime of a parent, and leaves the runtime as it was.
+fn is_whole_over<X, T, B, R>(
     alloc: Global,
-    language: &Rc<StdLanguage>,
-    page: &Page,
+    page: &Template<X, T, B>,
+    row: &Row,
+    parent: &Line,
+    mut runtime: R,
+    is_sandboxed: bool,
+) -> Result<bool, Fail>
+where
+    X: Filter,
+    T: Discreet<Marks>,
+    B: Discreet<Marks>,
+    R: Runtime<Register = Marks> + Drop,
+    R::Store: PartialStore<X, T, B>,
+{
+    let is_whole = row.is_whole(rendered(alloc, page, row, &mut runtime, is_sandboxed)?.as_str());
+    let is_kept = is_kept(alloc, parent, &runtime)?;
+    Ok(is_whole && is_kept)
+}
+
+/// Returns `true` if a page comes to what its row says over a parent, and leaves the parent as it was.
+fn holds_over<F, T, B>(
+    alloc: Global,
+    language: &Rc<Language<F, T, B>>,
+    page: &Template<F::Filter, T::Node, B::Node>,
     row: &Row,
     parent: &Line,
     is_sandboxed: bool,
-) -> Result<bool, Fail> {
-    let store = LazyCompiler::new(source_of(alloc, row)?).compile(alloc, language.clone()?)?;
-    let mut after = over(alloc, parent, row, store)?;
-    let all = rendered(alloc, page, row, &mut after, is_sandboxed)?;
-    Ok(row.is_whole(all.as_str()) && is_kept(alloc, parent, &after)?)
+) -> Result<bool, Fail>
+where
+    F: ParseFilter + Drop,
+    T: ParseTag<F> + Drop,
+    B: ParseBlock<F> + Drop,
+    T::Node: Discreet<Marks>,
+    B::Node: Discreet<Marks>,
+{
+    let runtime = over(alloc, parent, row, store_of(alloc, row, language)?)?;
+    is_whole_over(alloc, page, row, parent, runtime, is_sandboxed)
 }
 
-/// Returns `true` if a row holds over each parent.
-fn holds(alloc: Global, language: &Rc<StdLanguage>, row: &Row) -> Result<bool, Fail> {
-    let page = match parse(alloc, row.template(), &**language) {
-        Ok(nodes) => Template::new(nodes),
-        Err(error) => return Ok(row.is_whole(error.to_string(alloc)?.as_str())),
-    };
+/// Returns `true` if a parsed row holds over each parent.
+fn holds_over_each<F, T, B>(
+    alloc: Global,
+    language: &Rc<Language<F, T, B>>,
+    page: &Template<F::Filter, T::Node, B::Node>,
+    row: &Row,
+) -> Result<bool, Fail>
+where
+    F: ParseFilter + Drop,
+    T: ParseTag<F> + Drop,
+    B: ParseBlock<F> + Drop,
+    T::Node: Discreet<Marks>,
+    B::Node: Discreet<Marks>,
+{
+    let is_isolated_alone = row.member("is_sandboxed").is_none();
     for line in PARENTS.lines() {
         let parent = Line::of(alloc, line)?;
-        if !holds_over(alloc, language, &page, row, &parent, false)? {
-            return Ok(false);
-        }
-        if row.member("is_sandboxed").is_some()
-            && !holds_over(alloc, language, &page, row, &parent, true)?
+        let is_isolated = holds_over(alloc, language, page, row, &parent, false)?;
+        if !is_isolated
+            || !is_isolated_alone && !holds_over(alloc, language, page, row, &parent, true)?
         {
             return Ok(false);
         }
@@ -72,15 +105,42 @@ fn holds(alloc: Global, language: &Rc<StdLanguage>, row: &Row) -> Result<bool, F
     Ok(true)
 }
 
-#[test]
-fn rows_in_isolation(rt: HostRuntime) -> Result<(), Fail> {
-    let alloc = rt.alloc();
-    let language = Rc::new(alloc, language(alloc, filters(alloc, None)?)?)?;
+/// Returns `true` if a row holds over each parent, or has the error of its text.
+fn holds<F, T, B>(alloc: Global, language: &Rc<Language<F, T, B>>, row: &Row) -> Result<bool, Fail>
+where
+    F: ParseFilter + Drop,
+    T: ParseTag<F> + Drop,
+    B: ParseBlock<F> + Drop,
+    T::Node: Discreet<Marks>,
+    B::Node: Discreet<Marks>,
+{
+    match parse(alloc, row.template(), language) {
+        Ok(nodes) => holds_over_each(alloc, language, &Template::new(nodes), row),
+        Err(error) => Ok(row.is_whole(error.to_string(alloc)?.as_str())),
+    }
+}
+
+/// Fails for the first row that does not hold in a language.
+fn all_hold<F, T, B>(alloc: Global, language: Language<F, T, B>) -> Result<(), Fail>
+where
+    F: ParseFilter + Drop,
+    T: ParseTag<F> + Drop,
+    B: ParseBlock<F> + Drop,
+    T::Node: Discreet<Marks>,
+    B::Node: Discreet<Marks>,
+{
+    let language = Rc::new(alloc, language)?;
     for line in ISOLATED.lines() {
-        let row = row_of(alloc, line)?;
-        if !holds(alloc, &language, &row)? {
+        if !holds(alloc, &language, &row_of(alloc, line)?)? {
             return Err(Fail::new(format_args!("this row doesn't hold: {line}")));
         }
     }
+    Ok(())
+}
+
+#[test]
+fn rows_in_isolation(rt: HostRuntime) -> Result<(), Fail> {
+    let alloc = rt.alloc();
+    all_hold(alloc, liquid_std::language(alloc, filters(alloc, None)?)?)?;
     tests_lines::holds(ISOLATED.lines().count() == 54, "a table has all its rows")
 }

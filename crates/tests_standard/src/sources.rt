@@ -1,20 +1,23 @@
 //! What a row is rendered with.
 use liquid_core::model::{Object, to_object};
-use liquid_core::partials::InMemorySource;
+use liquid_core::parser::{Language, ParseBlock, ParseFilter, ParseTag};
+use liquid_core::partials::{InMemorySource, LazyCompiler, LazyStore, PartialCompiler};
 use liquid_core::{Error, TextSink};
 use serde_json::Value as Json;
 use std::alloc::Global;
+use std::rc::Rc;
 use std::test::Fail;
 use tests_lines::Row;
 
 /// Returns the row of a line, lenient if it says so.
 pub(crate) fn row_of(alloc: Global, line: &str) -> Result<Row, Fail> {
     let row = Row::of(alloc, line)?;
-    Ok(if row.member("is_lenient").is_some() {
+    let row = if row.member("is_lenient").is_some() {
         row.leniently()
     } else {
         row
-    })
+    };
+    Ok(row)
 }
 
 /// Returns the names that a row is given.
@@ -41,15 +44,35 @@ fn add_partial(alloc: Global, source: &mut InMemorySource, partial: &Json) -> Re
     }
 }
 
-/// Returns the source of a row's partials.
-pub(crate) fn source_of(alloc: Global, row: &Row) -> Result<InMemorySource, Fail> {
-    let mut source = InMemorySource::new(alloc);
+fn add_partials(alloc: Global, source: &mut InMemorySource, row: &Row) -> Result<(), Fail> {
     if let Some(Json::Array(partials)) = row.member("partials") {
         for partial in partials {
-            add_partial(alloc, &mut source, partial)?;
+            add_partial(alloc, source, partial)?;
         }
     }
+    Ok(())
+}
+
+/// Returns the source of a row's partials.
+fn source_of(alloc: Global, row: &Row) -> Result<InMemorySource, Fail> {
+    let mut source = InMemorySource::new(alloc);
+    add_partials(alloc, &mut source, row)?;
     Ok(source)
+}
+
+/// Returns the store of a row's partials in a language.
+pub(crate) fn store_of<F, T, B>(
+    alloc: Global,
+    row: &Row,
+    language: &Rc<Language<F, T, B>>,
+) -> Result<LazyStore<InMemorySource, F, T, B>, Fail>
+where
+    F: ParseFilter + Drop,
+    T: ParseTag<F> + Drop,
+    B: ParseBlock<F> + Drop,
+{
+    let compiler = LazyCompiler::new(source_of(alloc, row)?);
+    Ok(compiler.compile(alloc, language.clone()?)?)
 }
 
 /// Returns what was written, and then the text of the error.

@@ -1,21 +1,24 @@
 //! Pages of the standard tags and blocks.
-use liquid_core::model::object_from_str;
+use crate::sources::whole;
+use liquid_core::model::{Object, object_from_str};
 use liquid_core::parser::PluginRegistry;
 use liquid_core::partials::InMemorySource;
 use liquid_core::{Error, NoPlugin, TextSink};
 use liquid_std::render_page;
-use std::alloc::Global;
+use std::alloc::{AllocError, Global};
 use std::test::Fail;
-use tests_lines::Line;
+use tests_lines::{Line, rows_hold};
 
-/// What a text writes over these globals, and then its error, if there is one.
-fn written(alloc: Global, text: &str, globals: &str) -> Result<String, Error> {
-    let globals = match object_from_str(alloc, globals) {
-        Ok(globals) => globals?,
-        Err(_) => return Err(Error::with_msg(alloc, "no globals")),
-    };
-    let filters: PluginRegistry<NoPlugin> = PluginRegistry::new(alloc);
-    let mut sink = TextSink::new(alloc);
+/// Returns the globals of a text of JSON.
+fn globals_of(alloc: Global, globals: &str) -> Result<Object, Error> {
+    match object_from_str(alloc, globals) {
+        Ok(globals) => globals,
+        Err(_) => Err(Error::with_msg(alloc, "no globals")),
+    }
+}
+
+/// Returns the partials of each row.
+fn partials(alloc: Global) -> Result<InMemorySource, AllocError> {
     let mut partials = InMemorySource::new(alloc);
     for (name, text) in PARTIALS {
         partials.add(
@@ -23,24 +26,38 @@ fn written(alloc: Global, text: &str, globals: &str) -> Result<String, Error> {
             String::from_str(alloc, text)?,
         )?;
     }
-    let answer = render_page(alloc, text, globals, partials, filters, &mut sink);
-    let Ok(mut all) = sink.into_string() else {
-        return Err(Error::with_msg(alloc, "no text"));
-    };
-    if let Err(error) = answer {
-        all.push_str(error.to_string(alloc)?.as_str())?;
-    }
-    Ok(all)
+    Ok(partials)
 }
 
-/// The partials of each row.
+/// Renders a text over these globals, without filters.
+fn render(alloc: Global, text: &str, globals: Object, sink: &mut TextSink) -> Result<(), Error> {
+    let partials = partials(alloc)?;
+    let filters: PluginRegistry<NoPlugin> = PluginRegistry::new(alloc);
+    render_page(alloc, text, globals, partials, filters, sink)
+}
+
+/// Returns what a text writes over these globals, and then its error, if there is one.
+fn written(alloc: Global, text: &str, globals: &str) -> Result<String, Fail> {
+    let globals = globals_of(alloc, globals)?;
+    let mut sink = TextSink::new(alloc);
+    let answer = render(alloc, text, globals, &mut sink);
+    whole(alloc, sink, answer)
+}
+
+/// Returns `true` if a row's text writes what the row says.
+fn holds(alloc: Global, row: &Line) -> Result<bool, Fail> {
+    let (text, globals, wanted) = (row.text(0)?, row.text(1)?, row.text(2)?);
+    Ok(written(alloc, text, globals)?.as_str() == wanted)
+}
+
+/// A name and a text for each partial.
 const PARTIALS: [(&str, &str); 2] = [
     ("p", "{% assign y = 1 %}{{ y }}{{ z }}"),
     ("c", "{% cycle 1, 2 %}{% ifchanged %}a{% endifchanged %}"),
 ];
 
 /// A text, its globals, and what it writes.
-const ROWS: &str =
+static ROWS: &str =
     r#"["{% if true or false and false %}a{% endif %}{% if false and false or true %}b{% endif %}", "{}", "a"]
 ["{% if x == 1 and y %}a{% elsif x == 1 or z == 2 %}b{% else %}c{% endif %}", "{\"x\": 1}", "b"]
 ["{% if x == 1 or y == 2 %}a{% endif %}{% if x == 2 and y == 2 %}b{% endif %}", "{\"x\": 1}", "a"]
@@ -112,14 +129,6 @@ const ROWS: &str =
 
 #[test]
 fn rows_of_pages(rt: HostRuntime) -> Result<(), Fail> {
-    let alloc = rt.alloc();
-    let mut rows: usize = 0;
-    for line in ROWS.lines() {
-        let row = Line::of(alloc, line)?;
-        let written = written(alloc, row.text(0)?, row.text(1)?)?;
-        assert_eq!(rt; written.as_str(), row.text(2)?);
-        rows = rows.saturating_add(1);
-    }
-    assert_eq!(rt; rows, 68);
-    Ok(())
+    rows_hold(rt.alloc(), ROWS, holds)?;
+    tests_lines::holds(ROWS.lines().count() == 68, "a table has all its rows")
 }

@@ -7,29 +7,44 @@ use liquid_json::{
 use liquid_scalar::Scalar;
 use liquid_value::render::ValueSource;
 use liquid_value::{Object, Value};
+use serde_json::Error as JsonError;
 use std::alloc::{AllocError, Global};
 use std::test::Fail;
-use tests_lines::{Line, rows_hold, same};
+use tests_lines::{Line, holds, rows_hold, same};
 
-/// Returns the source of the value that was made, or the text of the error.
-fn told(alloc: Global, made: Result<Value>) -> std::result::Result<String, AllocError> {
+/// Returns `true` if the source of the value that was made, or the text of the error, is this one.
+fn is_told(
+    alloc: Global,
+    made: Result<Value>,
+    wanted: &str,
+) -> std::result::Result<bool, AllocError> {
     match made {
-        Ok(value) => ValueSource::new(&value).to_string(alloc),
-        Err(error) => error.to_string(alloc),
+        Ok(value) => Ok(ValueSource::new(&value).to_string(alloc)?.as_str() == wanted),
+        Err(error) => Ok(error.to_string(alloc)?.as_str() == wanted),
     }
 }
 
-fn scalar_told(alloc: Global, made: Result<Scalar>) -> std::result::Result<String, AllocError> {
+/// Returns `true` if the source of the object that was made, or the text of the error, is this one.
+fn object_is_told(
+    alloc: Global,
+    made: Result<Object>,
+    wanted: &str,
+) -> std::result::Result<bool, AllocError> {
     match made {
-        Ok(scalar) => told(alloc, Ok(Value::Scalar(scalar))),
-        Err(error) => error.to_string(alloc),
+        Ok(object) => is_told(alloc, Ok(Value::from(object)), wanted),
+        Err(error) => is_told(alloc, Err(error), wanted),
     }
 }
 
-fn object_told(alloc: Global, made: Result<Object>) -> std::result::Result<String, AllocError> {
+/// Returns `true` if the source of the scalar that was made, or the text of the error, is this one.
+fn scalar_is_told(
+    alloc: Global,
+    made: Result<Scalar>,
+    wanted: &str,
+) -> std::result::Result<bool, AllocError> {
     match made {
-        Ok(object) => told(alloc, Ok(Value::from(object))),
-        Err(error) => error.to_string(alloc),
+        Ok(scalar) => is_told(alloc, Ok(Value::Scalar(scalar)), wanted),
+        Err(error) => is_told(alloc, Err(error), wanted),
     }
 }
 
@@ -55,10 +70,10 @@ const VALUES: &str = r#"["nil", null]
 
 /// Returns `true` if the JSON of a row is the row's value, copied and taken apart.
 fn is_value(alloc: Global, row: &Line) -> std::result::Result<bool, Fail> {
-    let copied = told(alloc, to_value(alloc, row.member(1)?))?;
-    let taken = told(alloc, into_value(alloc, row.member(1)?.clone()?))?;
-    let wanted = row.text(0)?;
-    Ok(copied.as_str() == wanted && taken.as_str() == wanted)
+    let (wanted, json) = (row.text(0)?, row.member(1)?);
+    let is_copied = is_told(alloc, to_value(alloc, json), wanted)?;
+    let is_taken = is_told(alloc, into_value(alloc, json.clone()?), wanted)?;
+    Ok(is_copied & is_taken)
 }
 
 #[test]
@@ -80,15 +95,15 @@ const OBJECTS_AND_SCALARS: &str =
 
 /// Returns `true` if the JSON of a row is the row's object, copied and taken apart.
 fn is_object(alloc: Global, row: &Line) -> std::result::Result<bool, Fail> {
-    let copied = object_told(alloc, to_object(alloc, row.member(2)?))?;
-    let taken = object_told(alloc, into_object(alloc, row.member(2)?.clone()?))?;
-    let wanted = row.text(0)?;
-    Ok(copied.as_str() == wanted && taken.as_str() == wanted)
+    let (wanted, json) = (row.text(0)?, row.member(2)?);
+    let is_copied = object_is_told(alloc, to_object(alloc, json), wanted)?;
+    let is_taken = object_is_told(alloc, into_object(alloc, json.clone()?), wanted)?;
+    Ok(is_copied & is_taken)
 }
 
 fn is_scalar(alloc: Global, row: &Line) -> std::result::Result<bool, Fail> {
-    let scalar = scalar_told(alloc, to_scalar(alloc, row.member(2)?))?;
-    Ok(scalar.as_str() == row.text(1)?)
+    let (wanted, json) = (row.text(1)?, row.member(2)?);
+    Ok(scalar_is_told(alloc, to_scalar(alloc, json), wanted)?)
 }
 
 #[test]
@@ -126,23 +141,16 @@ const READ: &str =
 ["no JSON", "[\"a\""]
 ["no JSON", "{\"a\": \"\\ud800\"}"]"#;
 
-/// Returns the source of the object of the text, or the text of the error.
-fn read_told(alloc: Global, text: &str) -> std::result::Result<String, AllocError> {
+/// Returns `true` if the source of the object of the text, or the text of the error, is this one.
+fn is_read_as(alloc: Global, text: &str, wanted: &str) -> std::result::Result<bool, AllocError> {
     match object_from_str(alloc, text) {
-        Ok(object) => object_told(alloc, object),
-        Err(error) => String::from_str(
-            alloc,
-            if error.is_memory() {
-                "memory"
-            } else {
-                "no JSON"
-            },
-        ),
+        Ok(object) => object_is_told(alloc, object, wanted),
+        Err(error) => Ok(!error.is_memory() & (wanted == "no JSON")),
     }
 }
 
 fn is_read(alloc: Global, row: &Line) -> std::result::Result<bool, Fail> {
-    Ok(read_told(alloc, row.text(1)?)?.as_str() == row.text(0)?)
+    Ok(is_read_as(alloc, row.text(1)?, row.text(0)?)?)
 }
 
 /// Returns that many nested arrays, as a member of an object.
@@ -152,18 +160,27 @@ fn nested(alloc: Global, arrays: usize) -> std::result::Result<String, AllocErro
     format!(in alloc; "{{\"a\": {opened}{closed}}}")
 }
 
+/// Returns `true` if an object of that many nested arrays is read as a text.
+fn is_nested_as(
+    alloc: Global,
+    arrays: usize,
+    wanted: &str,
+) -> std::result::Result<bool, AllocError> {
+    is_read_as(alloc, nested(alloc, arrays)?.as_str(), wanted)
+}
+
 // With 126 arrays in an object, 127 are nested, and `serde_json` reads no more.
 #[test]
 fn texts_are_objects(rt: HostRuntime) -> std::result::Result<(), Fail> {
     let alloc = rt.alloc();
     rows_hold(alloc, READ, is_read)?;
-    same(
-        read_told(alloc, nested(alloc, 126)?.as_str())?.as_str(),
-        "{\"a\": , }",
+    holds(
+        is_nested_as(alloc, 126, "{\"a\": , }")?,
+        "126 arrays are read",
     )?;
-    same(
-        read_told(alloc, nested(alloc, 127)?.as_str())?.as_str(),
-        "no JSON",
+    holds(
+        is_nested_as(alloc, 127, "no JSON")?,
+        "127 arrays are not read",
     )
 }
 
@@ -189,22 +206,23 @@ fn is_count(count: usize, number: i64) -> bool {
     }
 }
 
+/// Returns `true` if an error has the kind and the place of the row.
+fn is_at(error: &JsonError, row: &Line) -> std::result::Result<bool, Fail> {
+    let told = if error.is_eof() {
+        "ends too soon"
+    } else {
+        "is wrong"
+    };
+    let is_told = told == row.text(0)?;
+    let is_line = is_count(error.line(), row.number(1)?);
+    Ok(is_count(error.column(), row.number(2)?) & is_line & is_told)
+}
+
 /// Returns `true` if reading the text fails with the error of the row.
 fn is_no_json(alloc: Global, row: &Line) -> std::result::Result<bool, Fail> {
     match object_from_str(alloc, row.text(3)?) {
         Ok(_) => Ok(false),
-        Err(error) => {
-            let told = if error.is_eof() {
-                "ends too soon"
-            } else {
-                "is wrong"
-            };
-            Ok(
-                told == row.text(0)?
-                    && is_count(error.line(), row.number(1)?)
-                    && is_count(error.column(), row.number(2)?),
-            )
-        }
+        Err(error) => is_at(&error, row),
     }
 }
 
@@ -228,18 +246,21 @@ fn shown(alloc: Global, value: &Value) -> std::result::Result<String, AllocError
 }
 
 fn text_is_shown(alloc: Global, row: &Line) -> std::result::Result<bool, Fail> {
+    let wanted = row.text(1)?;
     let value = Value::scalar(String::from_str(alloc, row.text(0)?)?);
-    Ok(shown(alloc, &value)?.as_str() == row.text(1)?)
+    Ok(shown(alloc, &value)?.as_str() == wanted)
 }
+
+const ALL: &str =
+    r#"[-5, null, {"state": "blank"}, {"day": 16}, {"moment": [10, 3600]}, {"t": true, "n": "a"}]"#;
+
+const ALL_SHOWN: &str =
+    r#"[-5,null,null,"2016-02-16","2016-02-16 10:00:00 +0100",{"n":"a","t":true}]"#;
 
 #[test]
 fn values_are_shown(rt: HostRuntime) -> std::result::Result<(), Fail> {
     let alloc = rt.alloc();
     rows_hold(alloc, TEXTS, text_is_shown)?;
-    let all = value_in(
-        alloc,
-        r#"[-5, null, {"state": "blank"}, {"day": 16}, {"moment": [10, 3600]}, {"t": true, "n": "a"}]"#,
-    )?;
-    let wanted = r#"[-5,null,null,"2016-02-16","2016-02-16 10:00:00 +0100",{"n":"a","t":true}]"#;
-    same(shown(alloc, &all)?.as_str(), wanted)
+    let all = value_in(alloc, ALL)?;
+    same(shown(alloc, &all)?.as_str(), ALL_SHOWN)
 }

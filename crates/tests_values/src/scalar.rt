@@ -1,6 +1,8 @@
 //! Scalars with their texts, their conversions, and what they are compared with.
+use crate::value::{day, moment, name_of, number};
 use liquid_dates::{Date, DateTime};
 use liquid_scalar::{Scalar, ScalarCow};
+use serde_json::Value as Json;
 use std::alloc::{AllocError, Global};
 use std::cmp::Ordering;
 use std::hash::{DefaultHasher, Hash, Hasher};
@@ -42,59 +44,126 @@ fn texts_that_write_whole_numbers(rt: HostRuntime) -> Result<(), Fail> {
     rows_hold(rt.alloc(), NUMBERS, |_, row| writes_number(row))
 }
 
+/// Returns the whole number of a scalar.
+fn number_of(scalar: ScalarCow<'_>) -> Option<i64> {
+    scalar.to_integer()
+}
+
+/// Returns the truth value of a scalar.
+fn truth_of(scalar: ScalarCow<'_>) -> Option<bool> {
+    scalar.to_bool()
+}
+
 #[test]
 fn only_truth_values_are_truth_values(_rt: HostRuntime) -> Result<(), Fail> {
-    holds(ScalarCow::new(-3i8).to_integer() == Some(-3), "a number")?;
+    holds(number_of(ScalarCow::new(-3i8)) == Some(-3), "a number")?;
     holds(
-        ScalarCow::new(true).to_integer().is_none(),
+        number_of(ScalarCow::new(true)).is_none(),
         "a truth value is no number",
     )?;
     holds(
-        ScalarCow::new(true).to_bool() == Some(true),
+        truth_of(ScalarCow::new(true)) == Some(true),
         "a truth value",
     )?;
     holds(
-        ScalarCow::new("true").to_bool().is_none(),
+        truth_of(ScalarCow::new("true")).is_none(),
         "a text is no truth value",
     )
 }
 
-#[test]
-fn scalars_are_loosely_equal(_rt: HostRuntime) -> Result<(), Fail> {
-    let truth = ScalarCow::new(true);
-    let lie = ScalarCow::new(false);
-    let one = ScalarCow::new(1u8);
-    let text = ScalarCow::new("1");
-    let empty = ScalarCow::new("");
-    holds(truth.scalar_eq(&empty), "true and a text")?;
-    holds(one.scalar_eq(&truth), "a number and true")?;
-    holds(!lie.scalar_eq(&empty), "false and a text")?;
-    holds(!one.scalar_eq(&text), "a number and a text")?;
-    holds(one.scalar_eq(&ScalarCow::new(1i64)), "a number and itself")?;
-    holds(one != text && truth != one, "strictly, kinds differ")
+/// Returns the date or the date time that a row gives.
+fn dated_in(given: &Json) -> Result<ScalarCow<'static>, Fail> {
+    match (given.get("day"), given.get("moment")) {
+        (Some(_), _) => Ok(ScalarCow::new(day(number(given.get("day"))?)?)),
+        (None, Some(given)) => Ok(ScalarCow::new(moment(given)?)),
+        (None, None) => Err(Fail::from("a row gives no scalar")),
+    }
 }
 
+/// Returns the scalar that a row gives: a text, a truth value, a whole number, or a date or a date time as in the rows of
+/// values.
+fn scalar_in(given: &Json) -> Result<ScalarCow<'_>, Fail> {
+    match (given.as_str(), given.as_bool(), given.as_i64()) {
+        (Some(text), _, _) => Ok(ScalarCow::new(text)),
+        (None, Some(truth), _) => Ok(ScalarCow::new(truth)),
+        (None, None, Some(number)) => Ok(ScalarCow::new(number)),
+        (None, None, None) => dated_in(given),
+    }
+}
+
+/// Returns `true` if two scalars compare as a row says.
+fn compare(left: &ScalarCow<'_>, right: &ScalarCow<'_>, row: &Line) -> Result<bool, Fail> {
+    match row.text(0)? {
+        "loosely" => Ok(left.scalar_eq(right) == row.truth(3)?),
+        "strictly" => Ok((*left == *right) == row.truth(3)?),
+        "in order" => Ok(name_of(left.scalar_cmp(right)) == row.found_text(3)),
+        _ => Err(Fail::from("no comparison has this name")),
+    }
+}
+
+/// Returns `true` if the scalars of a row compare as it says.
+fn are_compared(_alloc: Global, row: &Line) -> Result<bool, Fail> {
+    let left = scalar_in(row.member(1)?)?;
+    let right = scalar_in(row.member(2)?)?;
+    compare(&left, &right, row)
+}
+
+/// Fails for the first row of a table whose scalars don't compare as it says.
+fn all_are_compared(alloc: Global, rows: &str) -> Result<(), Fail> {
+    rows_hold(alloc, rows, are_compared)
+}
+
+// How two scalars are compared, the scalars, and whether they are equal.
+const EQUALITIES: &str = r#"["loosely", true, "", true]
+["loosely", 1, true, true]
+["loosely", false, "", false]
+["loosely", 1, "1", false]
+["strictly", 1, "1", false]
+["strictly", true, 1, false]"#;
+
 #[test]
-fn scalars_are_loosely_ordered(_rt: HostRuntime) -> Result<(), Fail> {
-    let truth = ScalarCow::new(true);
-    let lie = ScalarCow::new(false);
-    let one = ScalarCow::new(1u8);
-    let text = ScalarCow::new("1");
-    let empty = ScalarCow::new("");
-    holds(is_less(&lie, &truth), "false and true")?;
-    holds(text.scalar_cmp(&empty) == Some(Ordering::Greater), "texts")?;
-    holds(
-        is_less(&ScalarCow::new("10"), &ScalarCow::new("9")),
-        "texts by bytes",
-    )?;
+fn scalars_are_loosely_equal(rt: HostRuntime) -> Result<(), Fail> {
+    all_are_compared(rt.alloc(), EQUALITIES)?;
+    let (one, other) = (ScalarCow::new(1u8), ScalarCow::new(1i64));
+    holds(one.scalar_eq(&other), "a number and itself")
+}
+
+// The same, with the loose order of the scalars.
+const ORDERS: &str = r#"["in order", false, true, "less"]
+["in order", "1", "", "greater"]
+["in order", "10", "9", "less"]
+["in order", 1, "1", null]
+["in order", true, 1, null]"#;
+
+#[test]
+fn scalars_are_loosely_ordered(rt: HostRuntime) -> Result<(), Fail> {
+    all_are_compared(rt.alloc(), ORDERS)?;
     let (ten, nine) = (ScalarCow::new(10u16), ScalarCow::new(9u32));
-    holds(ten.scalar_cmp(&nine) == Some(Ordering::Greater), "numbers")?;
-    holds(one.scalar_cmp(&text).is_none(), "a number and a text")?;
-    holds(truth.scalar_cmp(&one).is_none(), "true and a number")
+    holds(ten.scalar_cmp(&nine) == Some(Ordering::Greater), "numbers")
 }
 
-fn is_less(left: &ScalarCow<'_>, right: &ScalarCow<'_>) -> bool {
-    left.scalar_cmp(right) == Some(Ordering::Less)
+/// Returns `true` if a scalar renders, shows its source, and names its type.
+fn displays(
+    alloc: Global,
+    scalar: &ScalarCow<'_>,
+    render: &str,
+    source: &str,
+    kind: &str,
+) -> Result<bool, AllocError> {
+    let is_rendered = scalar.render().to_string(alloc)?.as_str() == render;
+    let is_shown = scalar.source().to_string(alloc)?.as_str() == source;
+    let is_text = scalar.to_kstr(alloc)?.as_str() == render;
+    Ok(is_rendered & is_shown & is_text & (scalar.type_name() == kind))
+}
+
+/// Returns `true` if a copy of a scalar has this text.
+fn copy_has_text(alloc: Global, scalar: &ScalarCow<'_>, text: &str) -> Result<bool, AllocError> {
+    Ok(scalar.clone()?.into_string(alloc)?.as_str() == text)
+}
+
+/// Returns `true` if a scalar has this text.
+fn has_text(alloc: Global, scalar: ScalarCow<'_>, text: &str) -> Result<bool, AllocError> {
+    Ok(scalar.into_cow_str(alloc)?.as_str() == text)
 }
 
 /// Returns `true` if a scalar renders, shows its source, names its type, and is its text.
@@ -105,11 +174,9 @@ fn shows(
     source: &str,
     kind: &str,
 ) -> Result<bool, AllocError> {
-    let displays = scalar.render().to_string(alloc)?.as_str() == render
-        && scalar.source().to_string(alloc)?.as_str() == source;
-    let is_named = scalar.to_kstr(alloc)?.as_str() == render && scalar.type_name() == kind;
-    let is_copied = scalar.clone()?.into_string(alloc)?.as_str() == render;
-    Ok(displays && is_named && is_copied && scalar.into_cow_str(alloc)?.as_str() == render)
+    let is_displayed = displays(alloc, &scalar, render, source, kind)?;
+    let is_copied = copy_has_text(alloc, &scalar, render)?;
+    Ok(has_text(alloc, scalar, render)? & is_displayed & is_copied)
 }
 
 #[test]
@@ -129,16 +196,48 @@ fn renders_and_sources(rt: HostRuntime) -> Result<(), Fail> {
     holds(shows(alloc, text, "a\"b", "\"a\"b\"", "string")?, "a text")
 }
 
+/// Returns `true` if a copy of a scalar is the same and has the same hash.
+fn has_a_copy(scalar: &Scalar) -> Result<bool, AllocError> {
+    let copy = scalar.clone()?;
+    Ok(copy == *scalar && hash_of(&copy) == hash_of(scalar))
+}
+
+/// Returns `true` if a copy of what is borrowed from a scalar is the same.
+fn is_lent(alloc: Global, scalar: &Scalar) -> Result<bool, AllocError> {
+    Ok(scalar.as_ref().into_owned(alloc)? == *scalar)
+}
+
+/// Fails unless a scalar becomes this string.
+fn is_string(alloc: Global, scalar: Scalar, text: &str) -> Result<(), Fail> {
+    same(scalar.into_string(alloc)?.as_str(), text)
+}
+
+/// Fails unless a scalar becomes this text.
+fn is_cow_str(alloc: Global, scalar: Scalar, text: &str) -> Result<(), Fail> {
+    same(scalar.into_cow_str(alloc)?.as_str(), text)
+}
+
 #[test]
 fn owned_scalars_are_the_same(rt: HostRuntime) -> Result<(), Fail> {
     let alloc = rt.alloc();
     let text = owned(alloc, "abc")?;
-    let copy = text.clone()?;
-    holds(copy == text && hash_of(&copy) == hash_of(&text), "a copy")?;
-    let again = text.as_ref().into_owned(alloc)?;
-    holds(again == text, "a copy of what is borrowed")?;
-    same(copy.into_string(alloc)?.as_str(), "abc")?;
-    same(text.into_cow_str(alloc)?.as_str(), "abc")
+    holds(has_a_copy(&text)?, "a copy")?;
+    holds(is_lent(alloc, &text)?, "a copy of what is borrowed")?;
+    is_string(alloc, text.clone()?, "abc")?;
+    is_cow_str(alloc, text, "abc")
+}
+
+/// Returns `true` if a scalar is as another one strictly.
+fn is(left: &ScalarCow<'_>, right: ScalarCow<'_>) -> bool {
+    *left == right
+}
+
+/// Fails unless a borrowed scalar of the text `k` and its copy are as others of that text.
+fn is_borrowed(alloc: Global, borrowed: &ScalarCow<'_>, copy: &ScalarCow<'_>) -> Result<(), Fail> {
+    holds(is(borrowed, ScalarCow::new("k")), "a borrowed text")?;
+    holds(copy.scalar_eq(borrowed), "its copy")?;
+    let moved = ScalarCow::new(String::from_str(alloc, "k")?);
+    holds(is(copy, moved), "an owned text")
 }
 
 #[test]
@@ -147,58 +246,57 @@ fn borrowed_scalars_are_the_same(rt: HostRuntime) -> Result<(), Fail> {
     let kept = String::from_str(alloc, "k")?;
     let borrowed = ScalarCow::new(&kept);
     let copy = borrowed.clone()?;
-    holds(borrowed == ScalarCow::new("k"), "a borrowed text")?;
-    holds(copy.scalar_eq(&borrowed), "its copy")?;
-    let moved = ScalarCow::new(String::from_str(alloc, "k")?);
-    holds(moved == copy, "an owned text")
+    is_borrowed(alloc, &borrowed, &copy)
 }
 
+// How two scalars are compared, of which one is a date time, the scalars, and the result: loosely by days, and strictly by
+// instants and kinds.
+const DATES: &str = r#"["loosely", {"day": 16}, {"moment": [10, 3600]}, true]
+["loosely", {"moment": [10, 3600]}, {"day": 17}, false]
+["in order", {"day": 16}, {"moment": [10, 3600]}, "equal"]
+["in order", {"day": 17}, {"moment": [10, 3600]}, "greater"]
+["in order", {"moment": [10, 3600]}, {"day": 17}, "less"]
+["strictly", {"moment": [10, 3600]}, {"moment": [9, 0]}, true]
+["strictly", {"day": 16}, {"moment": [10, 3600]}, false]"#;
+
 #[test]
-fn dates_and_date_times_are_compared(_rt: HostRuntime) -> Result<(), Fail> {
-    let day = Date::from_ymd(2016, 2, 16)?;
-    let date = ScalarCow::new(day);
-    let next = ScalarCow::new(Date::from_ymd(2016, 2, 17)?);
-    let moment = ScalarCow::new(DateTime::from_parts(day, 10, 0, 0, 0, 3600)?);
-    let elsewhere = ScalarCow::new(DateTime::from_parts(day, 9, 0, 0, 0, 0)?);
-    holds(
-        date.scalar_eq(&moment) && !moment.scalar_eq(&next),
-        "loosely, by days",
-    )?;
-    holds(date.scalar_cmp(&moment) == Some(Ordering::Equal), "one day")?;
-    holds(
-        next.scalar_cmp(&moment) == Some(Ordering::Greater),
-        "the next day",
-    )?;
-    holds(is_less(&moment, &next), "the day before")?;
-    holds(
-        moment == elsewhere && date != moment,
-        "strictly, by instants and kinds",
+fn dates_and_date_times_are_compared(rt: HostRuntime) -> Result<(), Fail> {
+    all_are_compared(rt.alloc(), DATES)
+}
+
+/// Fails unless a date has the name of its type and its text.
+fn date_is_shown(alloc: Global, date: &ScalarCow<'_>) -> Result<(), Fail> {
+    same(date.type_name(), "date")?;
+    same(date.to_kstr(alloc)?.as_str(), "2016-02-17")
+}
+
+/// Fails unless a date time becomes its text.
+fn is_moment_text(alloc: Global, date_time: ScalarCow<'_>) -> Result<(), Fail> {
+    same(
+        date_time.into_string(alloc)?.as_str(),
+        "2016-02-16 10:00:00 +0100",
     )
 }
 
 #[test]
 fn dates_and_date_times_have_texts(rt: HostRuntime) -> Result<(), Fail> {
     let alloc = rt.alloc();
-    let day = Date::from_ymd(2016, 2, 16)?;
-    let next = ScalarCow::new(Date::from_ymd(2016, 2, 17)?);
-    let moment = ScalarCow::new(DateTime::from_parts(day, 10, 0, 0, 0, 3600)?);
-    same(next.type_name(), "date")?;
-    same(moment.type_name(), "date time")?;
-    same(
-        moment.into_string(alloc)?.as_str(),
-        "2016-02-16 10:00:00 +0100",
-    )?;
-    same(next.to_kstr(alloc)?.as_str(), "2016-02-17")
+    date_is_shown(alloc, &ScalarCow::new(day(17)?))?;
+    let moment = DateTime::from_parts(day(16)?, 10, 0, 0, 0, 3600)?;
+    same(ScalarCow::new(moment).type_name(), "date time")?;
+    is_moment_text(alloc, ScalarCow::new(moment))
 }
 
-fn has_date(scalar: &ScalarCow<'_>, moment: &DateTime, day: &Date) -> bool {
+/// Returns `true` if a scalar is a day where this is the present moment.
+fn has_date(scalar: ScalarCow<'_>, moment: &DateTime, day: &Date) -> bool {
     match scalar.to_date(*moment) {
         Some(date) => date == *day,
         None => false,
     }
 }
 
-fn has_date_time(scalar: &ScalarCow<'_>, moment: &DateTime, wanted: &DateTime) -> bool {
+/// Returns `true` if a scalar is a date time where this is the present moment.
+fn has_date_time(scalar: ScalarCow<'_>, moment: &DateTime, wanted: &DateTime) -> bool {
     match scalar.to_date_time(*moment) {
         Some(date_time) => date_time == *wanted,
         None => false,
@@ -213,7 +311,7 @@ const DAYS: &str = r#"["13 Jun 2016", true]
 fn is_day(row: &Line) -> Result<bool, Fail> {
     let day = Date::from_ymd(2016, 6, 13)?;
     let moment = DateTime::from_ymd(2016, 6, 13)?;
-    Ok(has_date(&ScalarCow::new(row.text(0)?), &moment, &day) == row.truth(1)?)
+    Ok(has_date(ScalarCow::new(row.text(0)?), &moment, &day) == row.truth(1)?)
 }
 
 // A text, and whether it is the first moment of that day where that is now.
@@ -223,7 +321,7 @@ const MOMENTS: &str = r#"["2016-06-13 02:00:00 +0200", true]
 
 fn is_moment(row: &Line) -> Result<bool, Fail> {
     let moment = DateTime::from_ymd(2016, 6, 13)?;
-    Ok(has_date_time(&ScalarCow::new(row.text(0)?), &moment, &moment) == row.truth(1)?)
+    Ok(has_date_time(ScalarCow::new(row.text(0)?), &moment, &moment) == row.truth(1)?)
 }
 
 #[test]
@@ -233,7 +331,7 @@ fn scalars_convert_to_dates(rt: HostRuntime) -> Result<(), Fail> {
     let day = Date::from_ymd(2016, 6, 13)?;
     let moment = DateTime::from_ymd(2016, 6, 13)?;
     holds(
-        !has_date(&ScalarCow::new(5i64), &moment, &day),
+        !has_date(ScalarCow::new(5i64), &moment, &day),
         "a number is no date",
     )
 }

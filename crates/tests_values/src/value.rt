@@ -5,6 +5,7 @@ mod shown;
 mod texts;
 mod values;
 
+pub(crate) use comparisons::name_of;
 use liquid_dates::{Date, DateTime};
 use liquid_json::to_value;
 use liquid_value::{Array, Object, State, Value};
@@ -13,7 +14,7 @@ use std::alloc::{AllocError, Global};
 use std::test::Fail;
 use tests_lines::Line;
 
-fn number(given: Option<&Json>) -> Result<i64, Fail> {
+pub(crate) fn number(given: Option<&Json>) -> Result<i64, Fail> {
     match given {
         Some(given) => match given.as_i64() {
             Some(number) => Ok(number),
@@ -23,11 +24,11 @@ fn number(given: Option<&Json>) -> Result<i64, Fail> {
     }
 }
 
-fn day(number: i64) -> Result<Date, Fail> {
+pub(crate) fn day(number: i64) -> Result<Date, Fail> {
     Ok(Date::from_ymd(2016, 2, u8::try_from(number)?)?)
 }
 
-fn moment(given: &Json) -> Result<DateTime, Fail> {
+pub(crate) fn moment(given: &Json) -> Result<DateTime, Fail> {
     let hour = u8::try_from(number(given.get(0))?)?;
     let offset = i32::try_from(number(given.get(1))?)?;
     Ok(DateTime::from_parts(day(16)?, hour, 0, 0, 0, offset)?)
@@ -64,20 +65,32 @@ fn plain_or_beyond(alloc: Global, given: &Json) -> Result<Value, Fail> {
     }
 }
 
-fn array_of(alloc: Global, items: &Vec<Json>) -> Result<Array, Fail> {
-    let mut array = Array::new(alloc);
+/// Puts the values of JSONs after the items of an array.
+fn push_all(alloc: Global, array: &mut Array, items: &Vec<Json>) -> Result<(), Fail> {
     for item in items {
         array.push(plain_or_beyond(alloc, item)?)?;
     }
+    Ok(())
+}
+
+fn array_of(alloc: Global, items: &Vec<Json>) -> Result<Array, Fail> {
+    let mut array = Array::new(alloc);
+    push_all(alloc, &mut array, items)?;
     Ok(array)
+}
+
+/// Puts the values of the members of a JSON into an object.
+fn insert_all(alloc: Global, object: &mut Object, members: &Map<String, Json>) -> Result<(), Fail> {
+    for (name, member) in members {
+        let name = String::from_str(alloc, name.as_str())?;
+        drop(object.insert(name, plain_or_beyond(alloc, member)?)?);
+    }
+    Ok(())
 }
 
 fn object_of(alloc: Global, members: &Map<String, Json>) -> Result<Object, Fail> {
     let mut object = Object::new(alloc);
-    for (name, member) in members {
-        let value = plain_or_beyond(alloc, member)?;
-        drop(object.insert(String::from_str(alloc, name.as_str())?, value)?);
-    }
+    insert_all(alloc, &mut object, members)?;
     Ok(object)
 }
 

@@ -12,6 +12,41 @@ use std::collections::{BTreeMap, HashMap};
 use std::test::Fail;
 use tests_lines::{holds, same};
 
+/// Returns `true` if the view renders, and shows its source, as these texts.
+fn displays<V: ValueView>(
+    alloc: Global,
+    view: &V,
+    render: &str,
+    source: &str,
+) -> Result<bool, AllocError> {
+    let is_text = view.to_kstr(alloc)?.as_str() == render;
+    let is_rendered = view.render().to_string(alloc)?.as_str() == render;
+    let is_source = view.source().to_string(alloc)?.as_str() == source;
+    Ok(is_text & is_rendered & is_source)
+}
+
+/// Returns `true` if a value has this text and this name of its type.
+fn has_text(alloc: Global, value: &Value, text: &str, name: &str) -> Result<bool, AllocError> {
+    Ok((value.to_kstr(alloc)?.as_str() == text) & (value.type_name() == name))
+}
+
+/// Returns `true` if the value that the view borrows or copies is this one.
+fn is_value<V: ValueView>(alloc: Global, view: &V, value: &Value) -> Result<bool, AllocError> {
+    Ok(*view.to_cow(alloc)?.as_view() == *value)
+}
+
+/// Returns `true` if the view is the value, which has this text and this name of its type.
+fn means<V: ValueView>(
+    alloc: Global,
+    view: &V,
+    value: &Value,
+    text: &str,
+    name: &str,
+) -> Result<bool, AllocError> {
+    let has_text = has_text(alloc, value, text, name)?;
+    Ok(is_value(alloc, view, value)? & has_text)
+}
+
 /// Returns `true` if the view renders, shows its source, and is the value, all as the value itself.
 fn shows<V: ValueView>(
     alloc: Global,
@@ -20,13 +55,9 @@ fn shows<V: ValueView>(
     source: &str,
     type_name: &str,
 ) -> Result<bool, AllocError> {
-    let value: Value = view.to_value(alloc)?;
-    let as_view = view.to_kstr(alloc)?.as_str() == render
-        && view.render().to_string(alloc)?.as_str() == render
-        && view.source().to_string(alloc)?.as_str() == source
-        && view.type_name() == type_name;
-    let as_value = value.to_kstr(alloc)?.as_str() == render && value.type_name() == type_name;
-    Ok(as_view && as_value && *view.to_cow(alloc)?.as_view() == value)
+    let is_displayed = displays(alloc, view, render, source)?;
+    let is_meant = means(alloc, view, &view.to_value(alloc)?, render, type_name)?;
+    Ok(is_displayed & is_meant & (view.type_name() == type_name))
 }
 
 #[test]
@@ -136,16 +167,26 @@ fn dates_and_date_times(rt: HostRuntime) -> Result<(), Fail> {
     )
 }
 
+/// Returns `true` if an array that is built of the items of a list is as the list.
+fn is_copied(alloc: Global, list: &Vec<i64>) -> Result<bool, AllocError> {
+    let copied = array_of(alloc, list)?.to_value(alloc)?;
+    Ok(list.to_value(alloc)? == copied)
+}
+
+/// Fails unless a list of 1 and 2 is an array.
+fn is_a_list(alloc: Global, list: &Vec<i64>) -> Result<(), Fail> {
+    holds(shows(alloc, list, "12", "[1, 2, ]", "array")?, "its texts")?;
+    holds(list.is_array() & !list.is_object(), "it is an array")?;
+    holds(is_copied(alloc, list)?, "an array of its items")
+}
+
 #[test]
 fn lists_are_arrays(rt: HostRuntime) -> Result<(), Fail> {
     let alloc = rt.alloc();
     let list: Vec<i64> = vec![in alloc; 1, 2]?;
-    holds(shows(alloc, &list, "12", "[1, 2, ]", "array")?, "its texts")?;
-    holds(list.is_array() && !list.is_object(), "it is an array")?;
+    is_a_list(alloc, &list)?;
     let nothing: Vec<i64> = Vec::new(alloc);
-    holds(nothing.query_state(State::Empty), "an empty list")?;
-    let is_copied = array_of(alloc, &list)?.to_value(alloc)? == list.to_value(alloc)?;
-    holds(is_copied, "an array of its items")
+    holds(nothing.query_state(State::Empty), "an empty list")
 }
 
 fn first_ten(alloc: Global) -> Result<Vec<i64>, AllocError> {
@@ -156,42 +197,49 @@ fn first_ten(alloc: Global) -> Result<Vec<i64>, AllocError> {
     Ok(ten)
 }
 
+/// Fails unless the ten items are there, and no index beyond them.
+fn has_ten_indexes(ten: &Vec<i64>) -> Result<(), Fail> {
+    let are_ten = (ten.size() == 10) & (ArrayView::values(ten).len() == 10);
+    holds(are_ten, "ten items")?;
+    let is_lowest = ten.contains_key(-10) & !ten.contains_key(-11);
+    holds(is_lowest, "the lowest index")?;
+    let is_highest = ten.contains_key(9) & !ten.contains_key(10);
+    holds(is_highest, "the highest index")?;
+    holds(!ten.contains_key(i64::MIN), "the least number is no index")
+}
+
+/// Returns the number at an index, if there is one.
+fn found(ten: &Vec<i64>, index: i64) -> Option<i64> {
+    ArrayView::get(ten, index).copied()
+}
+
+/// Fails unless the ten items are at their indexes.
+fn has_ten_items(ten: &Vec<i64>) -> Result<(), Fail> {
+    holds(found(ten, -1) == Some(9), "from the end")?;
+    holds(found(ten, -11).is_none(), "before the first")?;
+    holds(found(ten, 3) == Some(3), "from the beginning")
+}
+
 #[test]
 fn indexes_count_from_both_ends(rt: HostRuntime) -> Result<(), Fail> {
     let ten = first_ten(rt.alloc())?;
+    has_ten_indexes(&ten)?;
+    has_ten_items(&ten)
+}
+
+/// Fails unless the first and the last of ten items are found.
+fn has_ends(ten: &Vec<i64>) -> Result<(), Fail> {
+    holds(ArrayView::first(ten).copied() == Some(0), "the first")?;
+    holds(ArrayView::last(ten).copied() == Some(9), "the last")?;
     holds(
-        ten.size() == 10 && ArrayView::values(&ten).len() == 10,
-        "ten items",
-    )?;
-    holds(
-        ten.contains_key(-10) && !ten.contains_key(-11),
-        "the lowest index",
-    )?;
-    holds(
-        ten.contains_key(9) && !ten.contains_key(10),
-        "the highest index",
-    )?;
-    holds(!ten.contains_key(i64::MIN), "the least number is no index")?;
-    holds(ArrayView::get(&ten, -1).copied() == Some(9), "from the end")?;
-    holds(
-        ArrayView::get(&ten, -11).copied().is_none(),
-        "before the first",
-    )?;
-    holds(
-        ArrayView::get(&ten, 3).copied() == Some(3),
-        "from the beginning",
+        ArrayView::last(&ten).copied() == Some(9),
+        "the last of a reference",
     )
 }
 
 #[test]
 fn arrays_have_a_first_and_a_last_item(rt: HostRuntime) -> Result<(), Fail> {
-    let ten = first_ten(rt.alloc())?;
-    holds(ArrayView::first(&ten).copied() == Some(0), "the first")?;
-    holds(ArrayView::last(&ten).copied() == Some(9), "the last")?;
-    holds(
-        ArrayView::last(&&ten).copied() == Some(9),
-        "the last of a reference",
-    )
+    has_ends(&first_ten(rt.alloc())?)
 }
 
 fn two_names(alloc: Global) -> Result<BTreeMap<String, i64>, AllocError> {
@@ -201,14 +249,37 @@ fn two_names(alloc: Global) -> Result<BTreeMap<String, i64>, AllocError> {
     Ok(map)
 }
 
+/// Fails unless an object displays these texts.
+fn object_displays<O: ObjectView>(
+    alloc: Global,
+    object: &O,
+    render: &str,
+    source: &str,
+) -> Result<(), Fail> {
+    same(ObjectRender::new(object).to_string(alloc)?.as_str(), render)?;
+    same(ObjectSource::new(object).to_string(alloc)?.as_str(), source)
+}
+
 #[test]
 fn maps_are_objects(rt: HostRuntime) -> Result<(), Fail> {
     let alloc = rt.alloc();
     let map = two_names(alloc)?;
     let source = "{\"a\": 1, \"b\": 2, }";
     holds(shows(alloc, &map, "a1b2", source, "object")?, "its texts")?;
-    same(ObjectRender::new(&map).to_string(alloc)?.as_str(), "a1b2")?;
-    same(ObjectSource::new(&map).to_string(alloc)?.as_str(), source)
+    object_displays(alloc, &map, "a1b2", source)
+}
+
+/// Returns `true` if the object finds this number under a name.
+fn finds_number<O: ObjectView>(
+    alloc: Global,
+    object: &O,
+    name: &str,
+    number: i64,
+) -> Result<bool, AllocError> {
+    match object.lookup(alloc, name)? {
+        Some(found) => Ok(*found.as_view() == Value::scalar(number)),
+        None => Ok(false),
+    }
 }
 
 /// Returns `true` if the object finds this number under a name, and nothing under another.
@@ -218,24 +289,30 @@ fn finds<O: ObjectView>(
     name: &str,
     number: i64,
     other: &str,
-) -> Result<bool, Fail> {
+) -> Result<bool, AllocError> {
     let has_names = ObjectView::contains_key(object, name)
-        && !ObjectView::contains_key(object, other);
+        & !ObjectView::contains_key(object, other);
     let is_absent = object.lookup(alloc, other)?.is_none();
-    match object.lookup(alloc, name)? {
-        Some(found) => Ok(has_names && is_absent && *found.as_view() == Value::scalar(number)),
-        None => Ok(false),
-    }
+    Ok(finds_number(alloc, object, name, number)? & has_names & is_absent)
+}
+
+/// Returns `true` if these are the names of the object.
+fn has_keys<O: ObjectView>(alloc: Global, object: &O, keys: &[&str]) -> Result<bool, AllocError> {
+    let names = ObjectView::keys(object, alloc)?;
+    Ok(names.as_slice() == keys)
+}
+
+/// Fails unless a map has two names.
+fn has_two_names(alloc: Global, map: &BTreeMap<String, i64>) -> Result<(), Fail> {
+    holds(map.size() == 2, "two names")?;
+    holds(finds(alloc, map, "b", 2, "c")?, "one of them")?;
+    holds(has_keys(alloc, map, &["a", "b"])?, "in their order")
 }
 
 #[test]
 fn maps_find_their_names(rt: HostRuntime) -> Result<(), Fail> {
     let alloc = rt.alloc();
-    let map = two_names(alloc)?;
-    holds(map.size() == 2, "two names")?;
-    holds(finds(alloc, &map, "b", 2, "c")?, "one of them")?;
-    let names = ObjectView::keys(&map, alloc)?;
-    holds(names.as_slice() == ["a", "b"].as_slice(), "in their order")
+    has_two_names(alloc, &two_names(alloc)?)
 }
 
 #[test]
@@ -270,15 +347,15 @@ fn maps_without_order_are_told_by_name(rt: HostRuntime) -> Result<(), Fail> {
     holds(shows(alloc, &nothing, "", "{}", "object")?, "no names")
 }
 
+/// Fails unless a map has three names.
+fn has_three_names(alloc: Global, map: &HashMap<String, i64>) -> Result<(), Fail> {
+    holds(map.size() == 3, "three names")?;
+    holds(finds(alloc, map, "c", 3, "d")?, "one of them")?;
+    holds(has_keys(alloc, map, &["a", "b", "c"])?, "in their order")
+}
+
 #[test]
 fn maps_without_order_find_their_names(rt: HostRuntime) -> Result<(), Fail> {
     let alloc = rt.alloc();
-    let map = three_names(alloc)?;
-    holds(map.size() == 3, "three names")?;
-    holds(finds(alloc, &map, "c", 3, "d")?, "one of them")?;
-    let names = ObjectView::keys(&map, alloc)?;
-    holds(
-        names.as_slice() == ["a", "b", "c"].as_slice(),
-        "in their order",
-    )
+    has_three_names(alloc, &three_names(alloc)?)
 }

@@ -1,7 +1,8 @@
 //! Globals that are given as JSON, and runtimes of them.
 use crate::languages::plain_language;
-use crate::pages::{Over, holds_at_once};
-use liquid_core::model::{Date, DateTime, Object, ScalarCow, State, Value, to_object};
+use crate::pages::holds_at_once;
+use liquid_core::Error;
+use liquid_core::model::{Date, DateTime, Object, ScalarCow, State, Value, ValueCow, to_object};
 use liquid_core::runtime::{BuiltRuntime, Runtime, RuntimeBuilder};
 use serde_json::Value as Json;
 use std::alloc::{AllocError, Global};
@@ -14,10 +15,19 @@ pub(crate) fn object_of(alloc: Global, names: &str) -> Result<Object, Fail> {
     Ok(to_object(alloc, &names)?)
 }
 
+/// Returns a runtime without globals and without partials.
+pub(crate) fn no_names(alloc: Global) -> BuiltRuntime<(), ()> {
+    RuntimeBuilder::new(alloc).build()
+}
+
+/// Returns a runtime of these globals.
+pub(crate) fn runtime_over(alloc: Global, globals: Object) -> BuiltRuntime<(), ()> {
+    RuntimeBuilder::new(alloc).set_globals(globals).build()
+}
+
 /// Returns a runtime of the globals of a text of JSON.
 pub(crate) fn runtime_of(alloc: Global, globals: &str) -> Result<BuiltRuntime<(), ()>, Fail> {
-    let globals = object_of(alloc, globals)?;
-    Ok(RuntimeBuilder::new(alloc).set_globals(globals).build())
+    Ok(runtime_over(alloc, object_of(alloc, globals)?))
 }
 
 fn add(alloc: Global, object: &mut Object, name: &str, value: Value) -> Result<(), AllocError> {
@@ -43,8 +53,7 @@ const ROWS: &str =
 
 /// Returns `true` if a row is true over those globals.
 fn is_written(alloc: Global, row: &Row) -> Result<bool, Fail> {
-    let globals = globals(alloc)?;
-    let runtime: Over<()> = RuntimeBuilder::new(alloc).set_globals(globals).build();
+    let runtime = runtime_over(alloc, globals(alloc)?);
     holds_at_once(alloc, row, &*plain_language(alloc)?, runtime)
 }
 
@@ -57,17 +66,26 @@ fn dates_and_states_are_rendered(rt: HostRuntime) -> Result<(), Fail> {
     Ok(())
 }
 
-#[test]
-fn a_built_runtime_has_the_globals_alone(rt: HostRuntime) -> Result<(), Fail> {
-    let alloc = rt.alloc();
-    let runtime = runtime_of(alloc, r#"{"x": 1}"#)?;
-    holds(runtime.try_get_name("x").is_some(), "x has a value")?;
-    holds(runtime.try_get_name("y").is_none(), "y has no value")?;
-    match runtime.get(alloc, &[ScalarCow::from("y")]) {
+/// Fails for a refusal with a place, or out of memory.
+fn is_refusal_without_place(answer: Result<ValueCow<'_>, Error>) -> Result<(), Fail> {
+    match answer {
         Ok(_) => Err(Fail::from("y has a value")),
         Err(error) => holds(
-            error.place().is_none() && !error.is_memory(),
+            error.place().is_none() & !error.is_memory(),
             "the refusal of y has no place, and is not out of memory",
         ),
     }
+}
+
+/// Fails for a runtime in which `x` has no value, or `y` has one.
+fn has_x_alone<R: Runtime>(alloc: Global, runtime: &R) -> Result<(), Fail> {
+    holds(runtime.try_get_name("x").is_some(), "x has a value")?;
+    holds(runtime.try_get_name("y").is_none(), "y has no value")?;
+    is_refusal_without_place(runtime.get(alloc, &[ScalarCow::from("y")]))
+}
+
+#[test]
+fn a_built_runtime_has_the_globals_alone(rt: HostRuntime) -> Result<(), Fail> {
+    let alloc = rt.alloc();
+    has_x_alone(alloc, &runtime_of(alloc, r#"{"x": 1}"#)?)
 }

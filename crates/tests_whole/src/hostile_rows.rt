@@ -1,7 +1,7 @@
 //! Malicious texts: plug-ins that don't end, openers that are not liquid, and more open blocks or brackets than
 //! allowed.
-use crate::languages::{hostile_language, plain_tables_hold};
-use crate::pages::tables_hold;
+use crate::languages::{hostile_table_holds, plain_tables_hold};
+use bench::languages::hostile_language;
 use std::alloc::Global;
 use std::test::Fail;
 
@@ -25,7 +25,7 @@ const HOSTILE: &str = r#"{"template": "{% spin %}.", "written": "sss."}
 #[test]
 fn malicious_templates_are_rendered(rt: HostRuntime) -> Result<(), Fail> {
     let alloc = rt.alloc();
-    tables_hold(alloc, &[(HOSTILE, 15)], false, &hostile_language(alloc)?)
+    hostile_table_holds(alloc, (HOSTILE, 15), hostile_language(alloc)?)
 }
 
 /// Returns a text over and over.

@@ -16,14 +16,24 @@ fn shown(alloc: Global, items: &Items, place: u64) -> Result<String, Fail> {
     }
 }
 
-fn are_by_place(alloc: Global, series: &Series, first: &str, last: &str) -> Result<(), Fail> {
+/// Fails for an item at a place that has another text.
+fn is_shown(alloc: Global, items: &Items, place: u64, wanted: &str) -> Result<(), Fail> {
+    same(shown(alloc, items, place)?.as_str(), wanted)
+}
+
+/// Returns the items of a series, of which a list has the name `a`.
+fn items_over(alloc: Global, series: &Series) -> Result<Items, Fail> {
     let runtime = runtime_of(alloc, r#"{"a": [5, "b", null]}"#)?;
-    let items = items_of(alloc, series, &runtime)?;
+    Ok(items_of(alloc, series, &runtime)?)
+}
+
+fn are_by_place(alloc: Global, series: &Series, first: &str, last: &str) -> Result<(), Fail> {
+    let items = items_over(alloc, series)?;
     holds(items.len() == 3, "there are three items")?;
-    same(shown(alloc, &items, 0)?.as_str(), first)?;
-    same(shown(alloc, &items, 2)?.as_str(), last)?;
-    same(shown(alloc, &items, 3)?.as_str(), "-")?;
-    same(shown(alloc, &items, u64::MAX)?.as_str(), "-")
+    is_shown(alloc, &items, 0, first)?;
+    is_shown(alloc, &items, 2, last)?;
+    is_shown(alloc, &items, 3, "-")?;
+    is_shown(alloc, &items, u64::MAX, "-")
 }
 
 #[test]

@@ -3,7 +3,7 @@ use liquid_core::PartialStore;
 use liquid_core::parser::{Language, ParseBlock, ParseFilter, ParseTag};
 use liquid_core::partials::{
     EagerCompiler, EagerStore, InMemorySource, LazyCompiler, LazyStore, OnDemandCompiler,
-    OnDemandStore, PartialCompiler,
+    OnDemandStore, PartialCompiler, PartialSource,
 };
 use serde_json::Value as Json;
 use std::alloc::{AllocError, Global};
@@ -11,72 +11,75 @@ use std::rc::Rc;
 use std::test::Fail;
 use tests_lines::Row;
 
-/// A kind of store.
-pub(crate) trait Kind<F: ParseFilter, T: ParseTag<F>, B: ParseBlock<F>> {
+/// A kind of store of the texts of a source.
+pub(crate) trait Kind<S: PartialSource, F: ParseFilter, T: ParseTag<F>, B: ParseBlock<F>> {
     type Store: PartialStore<F::Filter, T::Node, B::Node> + Drop;
 
     /// Returns a store of these texts.
     fn store(
         alloc: Global,
-        source: InMemorySource,
+        source: S,
         language: &Rc<Language<F, T, B>>,
     ) -> Result<Self::Store, AllocError>;
 }
 
 pub(crate) struct OnDemand;
 
-impl<F, T, B> Kind<F, T, B> for OnDemand
+impl<S, F, T, B> Kind<S, F, T, B> for OnDemand
 where
+    S: PartialSource + Drop,
     F: ParseFilter + Drop,
     T: ParseTag<F> + Drop,
     B: ParseBlock<F> + Drop,
 {
-    type Store = OnDemandStore<InMemorySource, F, T, B>;
+    type Store = OnDemandStore<S, F, T, B>;
 
     fn store(
         alloc: Global,
-        source: InMemorySource,
+        source: S,
         language: &Rc<Language<F, T, B>>,
-    ) -> Result<OnDemandStore<InMemorySource, F, T, B>, AllocError> {
-        OnDemandCompiler::new(source).compile(alloc, language.clone()?)
+    ) -> Result<OnDemandStore<S, F, T, B>, AllocError> {
+        PartialCompiler::compile(OnDemandCompiler::new(source), alloc, language.clone()?)
     }
 }
 
 pub(crate) struct Lazy;
 
-impl<F, T, B> Kind<F, T, B> for Lazy
+impl<S, F, T, B> Kind<S, F, T, B> for Lazy
 where
+    S: PartialSource + Drop,
     F: ParseFilter + Drop,
     T: ParseTag<F> + Drop,
     B: ParseBlock<F> + Drop,
 {
-    type Store = LazyStore<InMemorySource, F, T, B>;
+    type Store = LazyStore<S, F, T, B>;
 
     fn store(
         alloc: Global,
-        source: InMemorySource,
+        source: S,
         language: &Rc<Language<F, T, B>>,
-    ) -> Result<LazyStore<InMemorySource, F, T, B>, AllocError> {
-        LazyCompiler::new(source).compile(alloc, language.clone()?)
+    ) -> Result<LazyStore<S, F, T, B>, AllocError> {
+        PartialCompiler::compile(LazyCompiler::new(source), alloc, language.clone()?)
     }
 }
 
 pub(crate) struct Eager;
 
-impl<F, T, B> Kind<F, T, B> for Eager
+impl<S, F, T, B> Kind<S, F, T, B> for Eager
 where
+    S: PartialSource + Drop,
     F: ParseFilter + Drop,
     T: ParseTag<F> + Drop,
     B: ParseBlock<F> + Drop,
 {
-    type Store = EagerStore<InMemorySource, F, T, B>;
+    type Store = EagerStore<S, F, T, B>;
 
     fn store(
         alloc: Global,
-        source: InMemorySource,
+        source: S,
         language: &Rc<Language<F, T, B>>,
-    ) -> Result<EagerStore<InMemorySource, F, T, B>, AllocError> {
-        EagerCompiler::new(source).compile(alloc, language.clone()?)
+    ) -> Result<EagerStore<S, F, T, B>, AllocError> {
+        PartialCompiler::compile(EagerCompiler::new(source), alloc, language.clone()?)
     }
 }
 

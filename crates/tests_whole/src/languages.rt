@@ -13,12 +13,8 @@ pub(crate) fn plain_language(alloc: Global) -> Result<Rc<PlainLanguage>, AllocEr
     Ok(Rc::new(alloc, bench::languages::language(alloc)?)?)
 }
 
-/// Does the same with plug-ins that are malicious.
-pub(crate) fn hostile_language(
-    alloc: Global,
-) -> Result<Rc<Language<Filters, HostileTags, HostileBlocks>>, AllocError> {
-    Ok(Rc::new(alloc, bench::languages::hostile_language(alloc)?)?)
-}
+/// The language of plug-ins that are malicious.
+pub(crate) type HostileLanguage = Language<Filters, HostileTags, HostileBlocks>;
 
 pub(crate) type LibraryLanguage = Language<Filters, liquid_tags::Tags, liquid_tags::Blocks>;
 
@@ -45,4 +41,13 @@ pub(crate) fn library_tables_hold(
     each_store: bool,
 ) -> Result<(), Fail> {
     tables_hold(alloc, tables, each_store, &library_language(alloc)?)
+}
+
+/// Fails for the first row of a table in a language of malicious plug-ins that does not pass.
+pub(crate) fn hostile_table_holds(
+    alloc: Global,
+    table: Table<'_>,
+    language: HostileLanguage,
+) -> Result<(), Fail> {
+    tables_hold(alloc, &[table], false, &Rc::new(alloc, language)?)
 }

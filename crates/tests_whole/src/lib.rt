@@ -45,6 +45,8 @@ mod plain_pages;
 #[cfg(test)]
 mod reflections;
 #[cfg(test)]
+mod renderings;
+#[cfg(test)]
 mod scopes;
 #[cfg(test)]
 mod shared_names;
@@ -56,6 +58,8 @@ mod sink_given;
 mod sink_rows;
 #[cfg(test)]
 mod sinks;
+#[cfg(test)]
+mod source_readings;
 #[cfg(test)]
 mod tag_rows;
 #[cfg(test)]

@@ -1,23 +1,24 @@
 //! Templates of nodes made by hand, with their results.
-use crate::nodes::{HostileElement, Same, nodes, nodes_in, text, written};
-use crate::pages::{Over, is_rendered, is_rendered_in, over, without_partials};
+use crate::given::no_names;
+use crate::nodes::{HostileElement, Page, page, page_in, text, written};
+use crate::pages::{Over, over, without_partials};
+use crate::renderings::{RENDERINGS, Rendering, is_rendered, rendered};
 use bench::blocks::BlockNode;
 use bench::dripping::Dripping;
 use bench::hostile::{HostileBlockNode, HostileTagNode};
 use bench::partial::OnePartial;
-use bench::tags::{LeakyTagNode, TagNode};
+use bench::tags::TagNode;
 use liquid_core::model::{Object, Value};
 use liquid_core::parser::Node;
 use liquid_core::runtime::{
-    BuiltRuntime, ChainedScopes, FlatScopes, Renderable, Runtime, RuntimeBuilder, RuntimeCore,
-    SandboxedStackFrame, Template,
+    BuiltRuntime, Renderable, Runtime, RuntimeBuilder, RuntimeCore, SandboxedStackFrame, Template,
 };
-use liquid_core::{PartialStore, TextSink};
+use liquid_core::{Error, Filter, PartialStore};
 use serde_json::Value as Json;
 use std::alloc::{AllocError, Global};
 use std::rc::Rc;
 use std::test::Fail;
-use tests_lines::{Line, Row, same};
+use tests_lines::{Line, Row, holds, same};
 
 /// Templates, each a list of steps.
 const ROWS: &str = r#"{"template": "", "steps": [["begin"], ["end", "box"]], "written": "[]"}
@@ -48,71 +49,57 @@ fn steps<'r>(row: &'r Row, member: &str) -> Result<&'r Vec<Json>, Fail> {
     }
 }
 
-/// Returns `true` if a row's nodes have its result by each call that renders them, over runtimes with a store.
-fn holds<P>(
+/// Returns a runtime of a row with the partial `p`.
+fn with_partial<X: Drop, T: Drop, B: Drop>(
     alloc: Global,
     row: &Row,
-    mut first: Over<P>,
-    mut second: Over<P>,
-    third: Over<P>,
-    fourth: Over<P>,
-) -> Result<bool, Fail>
-where
-    P: PartialStore<Same, LeakyTagNode, BlockNode> + Drop,
-{
-    let steps = steps(row, "steps")?;
-    let is_plain = is_rendered(alloc, row, nodes(alloc, steps)?, &mut first, &mut second)?;
-    let (one, other) = (nodes(alloc, steps)?, nodes(alloc, steps)?);
-    Ok(
-        is_plain
-            && is_rendered_in::<ChainedScopes<Over<P>>, _, _, _>(alloc, row, one, third)?
-            && is_rendered_in::<FlatScopes<Over<P>>, _, _, _>(alloc, row, other, fourth)?,
-    )
+    partial: Template<X, T, B>,
+) -> Result<Over<OnePartial<X, T, B>>, Fail> {
+    let template = Rc::new(alloc, partial)?;
+    let name = text(alloc, "p")?;
+    over(alloc, row, OnePartial { name, template })
 }
 
-/// Returns `true` if a row without a partial passes.
-fn holds_without_partials(alloc: Global, row: &Row) -> Result<bool, Fail> {
-    let base: Over<()> = without_partials(alloc, row)?;
-    let (second, third) = (without_partials(alloc, row)?, without_partials(alloc, row)?);
-    holds(
-        alloc,
-        row,
-        base,
-        second,
-        third,
-        without_partials(alloc, row)?,
-    )
-}
-
-type Store = OnePartial<Same, LeakyTagNode, BlockNode>;
-
-/// Returns a runtime over the partial of a row.
-fn with_partial(alloc: Global, row: &Row) -> Result<Over<Store>, Fail> {
-    let template = Template::new(nodes(alloc, steps(row, "partial")?)?);
-    let store = OnePartial {
-        name: text(alloc, "p")?,
-        template: Rc::new(alloc, template)?,
-    };
-    over(alloc, row, store)
-}
-
-/// Returns `true` if a row passes, with its partial if it has one.
-fn row_holds(alloc: Global, row: &Row) -> Result<bool, Fail> {
+/// Returns `true` if a row's template passes with a call that renders it, over its partial if it has one.
+fn holds_by(alloc: Global, row: &Row, template: &Page, call: Rendering) -> Result<bool, Fail> {
     if row.member("partial").is_none() {
-        return holds_without_partials(alloc, row);
+        let runtime: Over<()> = without_partials(alloc, row)?;
+        is_rendered(alloc, row, template, call, runtime)
+    } else {
+        let partial = page(alloc, steps(row, "partial")?)?;
+        is_rendered(
+            alloc,
+            row,
+            template,
+            call,
+            with_partial(alloc, row, partial)?,
+        )
     }
-    let (first, second) = (with_partial(alloc, row)?, with_partial(alloc, row)?);
-    let (third, fourth) = (with_partial(alloc, row)?, with_partial(alloc, row)?);
-    holds(alloc, row, first, second, third, fourth)
+}
+
+/// Returns `true` if a row passes with each call that renders a template.
+fn row_holds(alloc: Global, row: &Row) -> Result<bool, Fail> {
+    let template = page(alloc, steps(row, "steps")?)?;
+    for call in RENDERINGS {
+        if !holds_by(alloc, row, &template, call)? {
+            return Ok(false);
+        }
+    }
+    Ok(true)
+}
+
+/// Returns `true` if the row of a line passes with strict names and with lenient ones.
+fn line_holds(alloc: Global, line: &str) -> Result<bool, Fail> {
+    let row = Row::of(alloc, line)?;
+    let is_strict = row_holds(alloc, &row)?;
+    let is_lenient = row_holds(alloc, &row.leniently())?;
+    Ok(is_strict & is_lenient)
 }
 
 /// Fails for the first row of a table that does not pass with strict names and with lenient ones.
 fn all_hold(alloc: Global, rows: &str) -> Result<(), Fail> {
     for line in rows.lines() {
-        let row = Row::of(alloc, line)?;
-        let is_strict = row_holds(alloc, &row)?;
-        let row = row.leniently();
-        tests_lines::holds(is_strict && row_holds(alloc, &row)?, line)?;
+        holds(line_holds(alloc, line)?, line)?;
     }
     Ok(())
 }
@@ -127,50 +114,6 @@ fn partials_are_rendered_without_a_frame(rt: HostRuntime) -> Result<(), Fail> {
     all_hold(rt.alloc(), PARTIAL_ROWS)
 }
 
-/// Returns a runtime without globals and without partials.
-fn no_partials(alloc: Global) -> BuiltRuntime<(), ()> {
-    RuntimeBuilder::new(alloc).build()
-}
-
-/// Returns what a template writes, and after it the text of its error.
-fn rendered<T, B, R>(
-    alloc: Global,
-    nodes: Vec<Node<Same, T, B>>,
-    runtime: &mut R,
-) -> Result<String, Fail>
-where
-    R: Runtime,
-    T: Renderable<R::Register>,
-    B: Renderable<R::Register>,
-    R::Store: PartialStore<Same, T, B>,
-{
-    let mut sink = TextSink::new(alloc);
-    let answer = Template::new(nodes).render_to(alloc, &mut sink, runtime);
-    let mut all = sink.into_string()?;
-    if let Err(error) = answer {
-        all.push_str(error.to_string(alloc)?.as_str())?;
-    }
-    Ok(all)
-}
-
-#[test]
-fn no_partial_is_found_where_there_are_none(rt: HostRuntime) -> Result<(), Fail> {
-    let alloc = rt.alloc();
-    writes(
-        alloc,
-        r#"[["inc", "p"]]"#,
-        &mut no_partials(alloc),
-        "liquid: Partial does not exist\n  with:\n    name=p\n",
-    )?;
-    let mut empty: BuiltRuntime<(), ()> = RuntimeBuilder::new(alloc).set_partials(()).build();
-    writes(
-        alloc,
-        r#"[["inc", "p"]]"#,
-        &mut empty,
-        "liquid: Unknown partial-template\n  with:\n    requested partial=p\n    available partials=\n",
-    )
-}
-
 /// Fails for steps that write something else over a runtime, with the text of their error after it.
 fn writes<R: Runtime<Register = (), Store = ()>>(
     alloc: Global,
@@ -178,25 +121,63 @@ fn writes<R: Runtime<Register = (), Store = ()>>(
     runtime: &mut R,
     wanted: &str,
 ) -> Result<(), Fail> {
-    let all = rendered(alloc, nodes_in(alloc, steps)?, runtime)?;
-    same(all.as_str(), wanted)
+    let template = page_in(alloc, steps)?;
+    same(rendered(alloc, &template, runtime)?.as_str(), wanted)
 }
 
-/// Returns a sandbox over a runtime in which `s` is assigned, or nothing is.
-fn sandbox(alloc: Global, given: bool) -> Result<SandboxedStackFrame<BuiltRuntime<(), ()>>, Fail> {
-    let mut outside = no_partials(alloc);
+/// Does the same over a runtime that is built.
+fn writes_over(
+    alloc: Global,
+    steps: &str,
+    mut runtime: BuiltRuntime<(), ()>,
+    wanted: &str,
+) -> Result<(), Fail> {
+    writes(alloc, steps, &mut runtime, wanted)
+}
+
+#[test]
+fn no_partial_is_found_where_there_are_none(rt: HostRuntime) -> Result<(), Fail> {
+    let alloc = rt.alloc();
+    let include = r#"[["inc", "p"]]"#;
+    writes_over(
+        alloc,
+        include,
+        no_names(alloc),
+        "liquid: Partial does not exist\n  with:\n    name=p\n",
+    )?;
+    writes_over(
+        alloc,
+        include,
+        RuntimeBuilder::new(alloc).set_partials(()).build(),
+        "liquid: Unknown partial-template\n  with:\n    requested partial=p\n    available partials=\n",
+    )
+}
+
+/// Assigns `s`.
+fn assign<R: Runtime>(alloc: Global, runtime: &mut R) -> Result<(), Fail> {
+    runtime.set_global(text(alloc, "s")?, Value::scalar(text(alloc, "S")?))?;
+    Ok(())
+}
+
+/// Fails for a sandbox in which `leak` writes something else than `wanted`. Outside of it `s` is assigned if `given` is
+/// true, and nothing otherwise.
+fn leaks<R>(alloc: Global, mut outside: R, given: bool, wanted: &str) -> Result<(), Fail>
+where
+    R: Runtime<Register = (), Store = ()> + Drop,
+{
     if given {
-        outside.set_global(text(alloc, "s")?, Value::scalar(text(alloc, "S")?))?;
+        assign(alloc, &mut outside)?;
     }
-    Ok(SandboxedStackFrame::new(outside, Object::new(alloc)))
+    let mut sandbox = SandboxedStackFrame::new(outside, Object::new(alloc));
+    writes(alloc, r#"[["leak", "s", 1]]"#, &mut sandbox, wanted)
 }
 
 #[test]
 fn leak_writes_what_a_sandbox_hides(rt: HostRuntime) -> Result<(), Fail> {
     let alloc = rt.alloc();
-    let leak = r#"[["leak", "s", 1]]"#;
-    writes(alloc, leak, &mut sandbox(alloc, true)?, "S")?;
-    writes(alloc, leak, &mut sandbox(alloc, false)?, "")?;
+    for (given, wanted) in [(true, "S"), (false, "")] {
+        leaks(alloc, no_names(alloc), given, wanted)?;
+    }
     let mut core: RuntimeCore<(), ()> = RuntimeCore::new();
     writes(
         alloc,
@@ -210,12 +191,8 @@ fn leak_writes_what_a_sandbox_hides(rt: HostRuntime) -> Result<(), Fail> {
 const SINK_ROWS: &str = r#"[[["begin"], ["text", "ab"], ["end", "box"]], 2, "[a"]
 [[["set", "g", 1], ["text", "ab"], ["set", "g", 2]], 1, "a"]"#;
 
-/// Fails for a row whose sink takes something else, or whose call has no error.
-fn breaks_off(alloc: Global, row: &Line, runtime: &mut BuiltRuntime<(), ()>) -> Result<(), Fail> {
-    let mut sink = Dripping::new(alloc, u64::try_from(row.number(1)?)?);
-    let template = Template::new(nodes(alloc, row.list(0)?)?);
-    let answer = template.render_to(alloc, &mut sink, runtime);
-    tests_lines::holds(sink.as_bytes() == row.text(2)?.as_bytes(), "a beginning")?;
+/// Fails for a call without the error that its sink failed.
+fn breaks_off(alloc: Global, answer: Result<(), Error>) -> Result<(), Fail> {
     match answer {
         Ok(()) => Err(Fail::from("the sink did not fail")),
         Err(error) => same(
@@ -225,15 +202,51 @@ fn breaks_off(alloc: Global, row: &Line, runtime: &mut BuiltRuntime<(), ()>) -> 
     }
 }
 
+/// Fails for a sink that takes something else of a template, or whose call does not have its error.
+fn drips<X, T, B, R>(
+    alloc: Global,
+    template: &Template<X, T, B>,
+    mut sink: Dripping,
+    runtime: &mut R,
+    wanted: &str,
+) -> Result<(), Fail>
+where
+    X: Filter,
+    R: Runtime,
+    T: Renderable<R::Register>,
+    B: Renderable<R::Register>,
+    R::Store: PartialStore<X, T, B>,
+{
+    let answer = template.render_to(alloc, &mut sink, runtime);
+    breaks_off(alloc, answer)?;
+    holds(sink.as_bytes() == wanted.as_bytes(), "a beginning")
+}
+
+/// Fails for a row whose sink takes something else, or whose call has no error.
+fn row_drips<R>(alloc: Global, row: &Line, runtime: &mut R) -> Result<(), Fail>
+where
+    R: Runtime<Register = (), Store = ()>,
+{
+    let sink = Dripping::new(alloc, u64::try_from(row.number(1)?)?);
+    let template = page(alloc, row.list(0)?)?;
+    drips(alloc, &template, sink, runtime, row.text(2)?)
+}
+
+/// Fails for the first row that does not pass, and if a runtime is not left as their templates left it.
+fn rows_drip<R>(alloc: Global, mut runtime: R) -> Result<(), Fail>
+where
+    R: Runtime<Register = (), Store = ()> + Drop,
+{
+    for line in SINK_ROWS.lines() {
+        row_drips(alloc, &Line::of(alloc, line)?, &mut runtime)?;
+    }
+    writes(alloc, r#"[["shown", "g"]]"#, &mut runtime, "1")
+}
+
 #[test]
 fn a_sink_that_fails_leaves_what_was_set_before(rt: HostRuntime) -> Result<(), Fail> {
     let alloc = rt.alloc();
-    let mut runtime = no_partials(alloc);
-    for line in SINK_ROWS.lines() {
-        let row = Line::of(alloc, line)?;
-        breaks_off(alloc, &row, &mut runtime)?;
-    }
-    writes(alloc, r#"[["shown", "g"]]"#, &mut runtime, "1")
+    rows_drip(alloc, no_names(alloc))
 }
 
 /// Returns the nodes, with `.` after them.
@@ -253,7 +266,8 @@ fn around(
 
 /// Fails for a node that writes something else, with `.` after it.
 fn ends(alloc: Global, node: HostileElement, wanted: &str) -> Result<(), Fail> {
-    let all = rendered(alloc, before_a_point(alloc, node)?, &mut no_partials(alloc))?;
+    let template = Template::new(before_a_point(alloc, node)?);
+    let all = rendered(alloc, &template, &mut no_names(alloc))?;
     same(all.as_str(), wanted)
 }
 

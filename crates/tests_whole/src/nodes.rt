@@ -3,6 +3,7 @@ use bench::blocks::BlockNode;
 use bench::hostile::{HostileBlockNode, HostileTagNode};
 use bench::tags::{LeakyTagNode, TagNode};
 use liquid_core::Error;
+use liquid_core::runtime::Template;
 use liquid_plugins::{Expression, Filter, FilterChain, Meant, Node, Variable};
 use liquid_runtime::Runtime;
 use liquid_value::{Value, ValueCow};
@@ -40,7 +41,9 @@ impl Filter for Same {
     }
 }
 
-pub(crate) type Element = Node<Same, LeakyTagNode, BlockNode>;
+type Element = Node<Same, LeakyTagNode, BlockNode>;
+
+pub(crate) type Page = Template<Same, LeakyTagNode, BlockNode>;
 
 pub(crate) type HostileElement = Node<Same, HostileTagNode, HostileBlockNode>;
 
@@ -136,30 +139,43 @@ fn block(alloc: Global, step: &Json) -> Result<BlockNode, Fail> {
 
 /// A block that is open: the nodes before it, and its parts so far.
 #[derive(Drop)]
-struct Open {
-    outer: Vec<Element>,
-    parts: Vec<Vec<Element>>,
+struct Open<N> {
+    outer: Vec<N>,
+    parts: Vec<Vec<N>>,
 }
 
-/// Returns the nodes of a list of steps. A step is a word and its arguments. A block's parts are between `begin` and
-/// `end`, divided by `mid`, and `end` names the block.
-pub(crate) fn nodes(alloc: Global, steps: &Vec<Json>) -> Result<Vec<Element>, Fail> {
-    let mut list = Vec::new(alloc);
-    let mut open: Vec<Open> = Vec::new(alloc);
-    for step in steps {
-        match leaf(alloc, step)? {
-            Some(node) => list.push(node)?,
-            None => place(alloc, step, &mut list, &mut open)?,
-        }
+/// Begins a block after the nodes of a list.
+fn begin<N: Drop>(
+    alloc: Global,
+    list: &mut Vec<N>,
+    open: &mut Vec<Open<N>>,
+) -> Result<(), AllocError> {
+    let outer = mem::replace(list, Vec::new(alloc));
+    let parts = Vec::new(alloc);
+    open.push(Open { outer, parts })?;
+    Ok(())
+}
+
+/// Ends a part of the block that was begun last.
+fn divide<N: Drop>(alloc: Global, list: &mut Vec<N>, open: &mut Vec<Open<N>>) -> Result<(), Fail> {
+    match open.last_mut() {
+        Some(block) => Ok(block.parts.push(mem::replace(list, Vec::new(alloc)))?),
+        None => Err(Fail::from("no block is open")),
     }
-    Ok(list)
 }
 
-/// Returns the nodes of a text of JSON that is a list of steps.
-pub(crate) fn nodes_in(alloc: Global, text: &str) -> Result<Vec<Element>, Fail> {
-    match Json::from_str(alloc, text)? {
-        Json::Array(steps) => nodes(alloc, &steps),
-        _ => Err(Fail::from("steps are no list")),
+/// Ends the block that was begun last, with its last part.
+fn end<X: Drop, T: Drop, B: Drop>(
+    list: &mut Vec<Node<X, T, B>>,
+    open: &mut Vec<Open<Node<X, T, B>>>,
+    block: B,
+) -> Result<(), Fail> {
+    match open.pop() {
+        Some(Open { outer, mut parts }) => {
+            parts.push(mem::replace(list, outer))?;
+            Ok(list.push(Node::Block(block, parts))?)
+        }
+        None => Err(Fail::from("no block is open")),
     }
 }
 
@@ -168,27 +184,44 @@ fn place(
     alloc: Global,
     step: &Json,
     list: &mut Vec<Element>,
-    open: &mut Vec<Open>,
+    open: &mut Vec<Open<Element>>,
 ) -> Result<(), Fail> {
-    let done = mem::replace(list, Vec::new(alloc));
     match word(step, 0)? {
-        "end" => {
-            let Some(Open { outer, mut parts }) = open.pop() else {
-                return Err(Fail::from("no block is open"));
-            };
-            parts.push(done)?;
-            *list = outer;
-            list.push(Node::Block(block(alloc, step)?, parts))?;
-        }
-        "mid" => match open.last_mut() {
-            Some(block) => block.parts.push(done)?,
-            None => return Err(Fail::from("no block is open")),
-        },
-        "begin" => open.push(Open {
-            outer: done,
-            parts: Vec::new(alloc),
-        })?,
-        _ => return Err(Fail::from("no step has this name")),
+        "end" => end(list, open, block(alloc, step)?),
+        "mid" => divide(alloc, list, open),
+        "begin" => Ok(begin(alloc, list, open)?),
+        _ => Err(Fail::from("no step has this name")),
     }
-    Ok(())
+}
+
+/// Takes a step: adds its node, or begins, divides or ends a block.
+fn take(
+    alloc: Global,
+    step: &Json,
+    list: &mut Vec<Element>,
+    open: &mut Vec<Open<Element>>,
+) -> Result<(), Fail> {
+    match leaf(alloc, step)? {
+        Some(node) => Ok(list.push(node)?),
+        None => place(alloc, step, list, open),
+    }
+}
+
+/// Returns the template of a list of steps. A step is a word and its arguments. A block's parts are between `begin` and
+/// `end`, divided by `mid`, and `end` names the block.
+pub(crate) fn page(alloc: Global, steps: &Vec<Json>) -> Result<Page, Fail> {
+    let mut list = Vec::new(alloc);
+    let mut open = Vec::new(alloc);
+    for step in steps {
+        take(alloc, step, &mut list, &mut open)?;
+    }
+    Ok(Template::new(list))
+}
+
+/// Returns the template of a text of JSON that is a list of steps.
+pub(crate) fn page_in(alloc: Global, text: &str) -> Result<Page, Fail> {
+    match Json::from_str(alloc, text)? {
+        Json::Array(steps) => page(alloc, &steps),
+        _ => Err(Fail::from("steps are no list")),
+    }
 }

@@ -2,11 +2,16 @@
 use crate::pages::{Table, tables_hold};
 use crate::reflections::{block_is_told, body_is_told, filter_is_told, tag_is_told};
 use liquid_core::model::{Value, ValueCow};
-use liquid_core::parser::{Filter, FilterArguments, Language, NoPlugin, call_filter};
+use liquid_core::parser::{
+    BlockReflection, Filter, FilterArguments, FilterReflection, Language, NoPlugin, TagReflection,
+    call_filter,
+};
 use std::alloc::{AllocError, Global};
 use std::rc::Rc;
 use std::test::Fail;
 use tests_lines::{Line, holds};
+
+type Nothings = Language<NoPlugin, NoPlugin, NoPlugin>;
 
 /// Name, description, parameters by place, parameters by keyword.
 const FILTER: &str = r#"["nothing", "Gives nil.", "", ""]"#;
@@ -40,13 +45,28 @@ fn gives_nil(alloc: Global) -> Result<bool, Fail> {
     Ok(call_filter(alloc, &NoPlugin, &input, given)? == Value::Nil)
 }
 
-/// Returns a language in which `nothing` is a filter and a tag, and `none` a block.
-fn nothings(alloc: Global) -> Result<Language<NoPlugin, NoPlugin, NoPlugin>, AllocError> {
+/// Returns a language of a filter and a tag under their own names, and a block under another.
+fn language_of<F, T, B>(
+    alloc: Global,
+    filter: F,
+    tag: T,
+    (name, block): (&str, B),
+) -> Result<Language<F, T, B>, AllocError>
+where
+    F: FilterReflection + Drop,
+    T: TagReflection + Drop,
+    B: BlockReflection + Drop,
+{
     let mut language = Language::empty(alloc);
-    language.add_filter(alloc, NoPlugin)?;
-    language.add_tag(alloc, NoPlugin)?;
-    language.blocks.register("none", NoPlugin)?;
+    language.add_filter(alloc, filter)?;
+    language.add_tag(alloc, tag)?;
+    language.blocks.register(name, block)?;
     Ok(language)
+}
+
+/// Returns a language in which `nothing` is a filter and a tag, and `none` a block.
+fn nothings(alloc: Global) -> Result<Nothings, AllocError> {
+    language_of(alloc, NoPlugin, NoPlugin, ("none", NoPlugin))
 }
 
 /// Texts, and their results. The end of a block is the one that it names itself, whatever name it is registered under,
@@ -68,11 +88,7 @@ const ROWS: &str =
 {"template": "{{ name.size }}", "globals": {"name": "World"}, "written": "5"}"#;
 
 /// Fails for the first row of a table in a language of `nothing` that does not pass.
-fn table_holds(
-    alloc: Global,
-    table: Table<'_>,
-    language: Language<NoPlugin, NoPlugin, NoPlugin>,
-) -> Result<(), Fail> {
+fn table_holds(alloc: Global, table: Table<'_>, language: Nothings) -> Result<(), Fail> {
     tables_hold(alloc, &[table], false, &Rc::new(alloc, language)?)
 }
 
@@ -87,12 +103,23 @@ fn nothing_makes_nothing(rt: HostRuntime) -> Result<(), Fail> {
 /// A text over a language with the block `nothing` alone.
 const NAMED: &str = r#"{"template": "a{% nothing %}b{% endnothing %}c", "written": "ac"}"#;
 
+/// Returns a language of a block that was added twice. Fails if the first one replaces another, or the second does not
+/// replace the first.
+fn added_twice<F, T, B>(alloc: Global, first: B, second: B) -> Result<Language<F, T, B>, Fail>
+where
+    F: FilterReflection + Drop,
+    T: TagReflection + Drop,
+    B: BlockReflection + Drop,
+{
+    let mut language = Language::empty(alloc);
+    holds(!language.add_block(alloc, first)?, "the block is new")?;
+    holds(language.add_block(alloc, second)?, "the block was there")?;
+    Ok(language)
+}
+
 // Plug-ins are found under the names that they return, and a second one replaces the first.
 #[test]
 fn plugins_are_added_under_their_own_names(rt: HostRuntime) -> Result<(), Fail> {
     let alloc = rt.alloc();
-    let mut language: Language<NoPlugin, NoPlugin, NoPlugin> = Language::empty(alloc);
-    holds(!language.add_block(alloc, NoPlugin)?, "the block is new")?;
-    holds(language.add_block(alloc, NoPlugin)?, "the block was there")?;
-    table_holds(alloc, (NAMED, 1), language)
+    table_holds(alloc, (NAMED, 1), added_twice(alloc, NoPlugin, NoPlugin)?)
 }

@@ -1,12 +1,12 @@
 //! Rows in any language, by each of the calls that render a template.
 use crate::kinds::{Eager, Kind, Lazy, OnDemand, source};
+use crate::renderings::{RENDERINGS, Rendering, is_rendered};
 use liquid_core::model::{Object, to_object};
-use liquid_core::parser::{Language, Node, ParseBlock, ParseFilter, ParseTag, parse};
-use liquid_core::runtime::{
-    BuiltRuntime, ChainedScopes, FlatScopes, Renderable, Runtime, RuntimeBuilder, Scopes, Template,
-};
-use liquid_core::{Error, Filter, PartialStore, TextSink, render_source};
-use std::alloc::Global;
+use liquid_core::parser::{Language, ParseBlock, ParseFilter, ParseTag, parse};
+use liquid_core::partials::InMemorySource;
+use liquid_core::runtime::{BuiltRuntime, Renderable, Runtime, RuntimeBuilder, Template};
+use liquid_core::{Error, PartialStore, TextSink, render_source};
+use std::alloc::{AllocError, Global};
 use std::rc::Rc;
 use std::test::Fail;
 use tests_lines::Row;
@@ -14,9 +14,11 @@ use tests_lines::Row;
 /// A runtime over a store of partials.
 pub(crate) type Over<P> = BuiltRuntime<(), P>;
 
-/// What a language reads a text as.
-type Nodes<F, T, B> = Vec<
-    Node<<F as ParseFilter>::Filter, <T as ParseTag<F>>::Node, <B as ParseBlock<F>>::Node>,
+/// A template of a language.
+pub(crate) type Page<F, T, B> = Template<
+    <F as ParseFilter>::Filter,
+    <T as ParseTag<F>>::Node,
+    <B as ParseBlock<F>>::Node,
 >;
 
 /// Returns the names that a row sees.
@@ -38,28 +40,26 @@ fn depth(row: &Row) -> Result<u32, Fail> {
     }
 }
 
-/// Returns a runtime of a row's globals over a store.
-pub(crate) fn over<P: Drop>(alloc: Global, row: &Row, store: P) -> Result<Over<P>, Fail> {
-    let (globals, depth) = (globals(alloc, row)?, depth(row)?);
-    Ok(
-        RuntimeBuilder::new(alloc)
-            .set_globals(globals)
-            .set_partials(store)
-            .set_depth(depth)
-            .set_lenient(row.is_lenient())
-            .build(),
-    )
-}
-
-/// Does the same without a store.
-pub(crate) fn without_partials<P: Drop>(alloc: Global, row: &Row) -> Result<Over<P>, Fail> {
+/// Returns a builder of a row's globals.
+fn builder<P: Drop>(alloc: Global, row: &Row) -> Result<RuntimeBuilder<(), P>, Fail> {
     let globals = globals(alloc, row)?;
     Ok(
         RuntimeBuilder::new(alloc)
             .set_globals(globals)
-            .set_lenient(row.is_lenient())
-            .build(),
+            .set_lenient(row.is_lenient()),
     )
+}
+
+/// Returns a runtime of a row's globals over a store.
+pub(crate) fn over<P: Drop>(alloc: Global, row: &Row, store: P) -> Result<Over<P>, Fail> {
+    let depth = depth(row)?;
+    let builder = builder(alloc, row)?;
+    Ok(builder.set_partials(store).set_depth(depth).build())
+}
+
+/// Does the same without a store.
+pub(crate) fn without_partials<P: Drop>(alloc: Global, row: &Row) -> Result<Over<P>, Fail> {
+    Ok(builder(alloc, row)?.build())
 }
 
 /// Returns a runtime of a row's globals, over a store of its partials if it has some.
@@ -72,7 +72,7 @@ where
     F: ParseFilter + Drop,
     T: ParseTag<F> + Drop,
     B: ParseBlock<F> + Drop,
-    K: Kind<F, T, B>,
+    K: Kind<InMemorySource, F, T, B>,
 {
     if row.member("partials").is_none() {
         return without_partials(alloc, row);
@@ -80,11 +80,15 @@ where
     over(alloc, row, K::store(alloc, source(alloc, row)?, language)?)
 }
 
-/// Returns the error's text, empty if there is none.
-pub(crate) fn error_text(alloc: Global, answer: &Result<(), Error>) -> Result<String, Fail> {
+/// Returns `true` if a call has an error with this text, or if it has none and the text is empty.
+pub(crate) fn has_error(
+    alloc: Global,
+    answer: &Result<(), Error>,
+    text: &str,
+) -> Result<bool, AllocError> {
     match answer {
-        Ok(()) => Ok(String::new(alloc)),
-        Err(error) => Ok(error.to_string(alloc)?),
+        Ok(()) => Ok(text.is_empty()),
+        Err(error) => Ok(!text.is_empty() & (error.to_string(alloc)?.as_str() == text)),
     }
 }
 
@@ -95,64 +99,16 @@ pub(crate) fn is_told(
     sink: &TextSink,
     answer: &Result<(), Error>,
 ) -> Result<bool, Fail> {
-    let error = error_text(alloc, answer)?;
-    Ok(sink.as_bytes() == row.written().as_bytes() && error.as_str() == row.error())
-}
-
-/// Returns `true` if a row's nodes have its result by `render_to`, and by `render`, which returns no text with an
-/// error.
-pub(crate) fn is_rendered<X, T, B, P>(
-    alloc: Global,
-    row: &Row,
-    nodes: Vec<Node<X, T, B>>,
-    first: &mut Over<P>,
-    second: &mut Over<P>,
-) -> Result<bool, Fail>
-where
-    X: Filter,
-    T: Renderable<()>,
-    B: Renderable<()>,
-    P: PartialStore<X, T, B> + Drop,
-{
-    let template = Template::new(nodes);
-    let mut sink = TextSink::new(alloc);
-    let answer = template.render_to(alloc, &mut sink, first);
-    let is_told = is_told(alloc, row, &sink, &answer)?;
-    match template.render(alloc, second) {
-        Ok(text) => Ok(is_told && text.as_str() == row.written() && row.error().is_empty()),
-        Err(error) => Ok(is_told && error.to_string(alloc)?.as_str() == row.error()),
-    }
-}
-
-/// Returns `true` if a row's nodes have its result by `render_in` over scopes of one form, which leaves no frame open.
-pub(crate) fn is_rendered_in<S, X, T, B>(
-    alloc: Global,
-    row: &Row,
-    nodes: Vec<Node<X, T, B>>,
-    base: S::Base,
-) -> Result<bool, Fail>
-where
-    S: Scopes<Register = ()>,
-    S::Base: Drop,
-    X: Filter,
-    T: Renderable<()>,
-    B: Renderable<()>,
-    S::Store: PartialStore<X, T, B>,
-{
-    let mut scopes = S::new(alloc, base);
-    let mut sink = TextSink::new(alloc);
-    let answer = Template::new(nodes).render_in(alloc, &mut sink, &mut scopes);
-    let frames = scopes.frames();
-    let _base = scopes.into_base();
-    Ok(frames == 0 && is_told(alloc, row, &sink, &answer)?)
+    let has_error = has_error(alloc, answer, row.error())?;
+    Ok(has_error & (sink.as_bytes() == row.written().as_bytes()))
 }
 
 /// Returns `true` if a row passes with `render_source`.
-pub(crate) fn holds_at_once<F, T, B, P>(
+pub(crate) fn holds_at_once<F, T, B, R>(
     alloc: Global,
     row: &Row,
     language: &Language<F, T, B>,
-    mut runtime: Over<P>,
+    mut runtime: R,
 ) -> Result<bool, Fail>
 where
     F: ParseFilter + Drop,
@@ -160,19 +116,40 @@ where
     B: ParseBlock<F> + Drop,
     T::Node: Renderable<()>,
     B::Node: Renderable<()>,
-    P: PartialStore<F::Filter, T::Node, B::Node> + Drop,
+    R: Runtime<Register = ()> + Drop,
+    R::Store: PartialStore<F::Filter, T::Node, B::Node>,
 {
     let mut sink = TextSink::new(alloc);
     let answer = render_source(alloc, row.template(), language, &mut runtime, &mut sink);
     is_told(alloc, row, &sink, &answer)
 }
 
-/// Returns `true` if a parsed row passes with each call that renders nodes.
+/// Returns `true` if a row's page passes with one of the calls that render a template.
+fn holds_by<F, T, B, K>(
+    alloc: Global,
+    row: &Row,
+    language: &Rc<Language<F, T, B>>,
+    page: &Page<F, T, B>,
+    rendering: Rendering,
+) -> Result<bool, Fail>
+where
+    F: ParseFilter + Drop,
+    T: ParseTag<F> + Drop,
+    B: ParseBlock<F> + Drop,
+    T::Node: Renderable<()>,
+    B::Node: Renderable<()>,
+    K: Kind<InMemorySource, F, T, B>,
+{
+    let runtime = runtime::<F, T, B, K>(alloc, row, language)?;
+    is_rendered(alloc, row, page, rendering, runtime)
+}
+
+/// Returns `true` if a row that is parsed once passes with each call that renders a template, or has the error of its
+/// text.
 fn holds_once_read<F, T, B, K>(
     alloc: Global,
     row: &Row,
     language: &Rc<Language<F, T, B>>,
-    nodes: Nodes<F, T, B>,
 ) -> Result<bool, Fail>
 where
     F: ParseFilter + Drop,
@@ -180,35 +157,18 @@ where
     B: ParseBlock<F> + Drop,
     T::Node: Renderable<()>,
     B::Node: Renderable<()>,
-    K: Kind<F, T, B>,
+    K: Kind<InMemorySource, F, T, B>,
 {
-    let mut first = runtime::<F, T, B, K>(alloc, row, language)?;
-    let mut second = runtime::<F, T, B, K>(alloc, row, language)?;
-    is_rendered(alloc, row, nodes, &mut first, &mut second)
-}
-
-/// Returns `true` if a row that is parsed again passes over both forms of scopes.
-fn holds_over_scopes<F, T, B, K>(
-    alloc: Global,
-    row: &Row,
-    language: &Rc<Language<F, T, B>>,
-) -> Result<bool, Fail>
-where
-    F: ParseFilter + Drop,
-    T: ParseTag<F> + Drop,
-    B: ParseBlock<F> + Drop,
-    T::Node: Renderable<()>,
-    B::Node: Renderable<()>,
-    K: Kind<F, T, B>,
-{
-    let base = runtime::<F, T, B, K>(alloc, row, language)?;
-    let nodes = parse(alloc, row.template(), language)?;
-    let chained = is_rendered_in::<ChainedScopes<Over<K::Store>>, _, _, _>(
-        alloc, row, nodes, base,
-    )?;
-    let base = runtime::<F, T, B, K>(alloc, row, language)?;
-    let nodes = parse(alloc, row.template(), language)?;
-    Ok(chained && is_rendered_in::<FlatScopes<Over<K::Store>>, _, _, _>(alloc, row, nodes, base)?)
+    let page = match parse(alloc, row.template(), language) {
+        Ok(nodes) => Template::new(nodes),
+        Err(error) => return Ok(error.to_string(alloc)?.as_str() == row.error()),
+    };
+    for rendering in RENDERINGS {
+        if !holds_by::<F, T, B, K>(alloc, row, language, &page, rendering)? {
+            return Ok(false);
+        }
+    }
+    Ok(true)
 }
 
 /// Returns `true` if a row passes with each of the calls.
@@ -223,18 +183,32 @@ where
     B: ParseBlock<F> + Drop,
     T::Node: Renderable<()>,
     B::Node: Renderable<()>,
-    K: Kind<F, T, B>,
+    K: Kind<InMemorySource, F, T, B>,
 {
     let runtime = runtime::<F, T, B, K>(alloc, row, language)?;
     let at_once = holds_at_once(alloc, row, language, runtime)?;
-    match parse(alloc, row.template(), language) {
-        Ok(nodes) => Ok(
-            at_once
-                && holds_once_read::<F, T, B, K>(alloc, row, language, nodes)?
-                && holds_over_scopes::<F, T, B, K>(alloc, row, language)?,
-        ),
-        Err(error) => Ok(at_once && error.to_string(alloc)?.as_str() == row.error()),
-    }
+    let once_read = holds_once_read::<F, T, B, K>(alloc, row, language)?;
+    Ok(at_once & once_read)
+}
+
+/// Returns `true` if the row of a line passes with each of the calls, with strict names and with lenient ones.
+fn line_holds<F, T, B, K>(
+    alloc: Global,
+    line: &str,
+    language: &Rc<Language<F, T, B>>,
+) -> Result<bool, Fail>
+where
+    F: ParseFilter + Drop,
+    T: ParseTag<F> + Drop,
+    B: ParseBlock<F> + Drop,
+    T::Node: Renderable<()>,
+    B::Node: Renderable<()>,
+    K: Kind<InMemorySource, F, T, B>,
+{
+    let row = Row::of(alloc, line)?;
+    let is_strict = holds_by_each::<F, T, B, K>(alloc, &row, language)?;
+    let is_lenient = holds_by_each::<F, T, B, K>(alloc, &row.leniently(), language)?;
+    Ok(is_strict & is_lenient)
 }
 
 /// Fails for the first row of a table that does not pass with each of the calls, with strict names and with lenient
@@ -251,13 +225,10 @@ where
     B: ParseBlock<F> + Drop,
     T::Node: Renderable<()>,
     B::Node: Renderable<()>,
-    K: Kind<F, T, B>,
+    K: Kind<InMemorySource, F, T, B>,
 {
     for line in rows.lines() {
-        let row = Row::of(alloc, line)?;
-        let is_strict = holds_by_each::<F, T, B, K>(alloc, &row, language)?;
-        let row = row.leniently();
-        if !is_strict || !holds_by_each::<F, T, B, K>(alloc, &row, language)? {
+        if !line_holds::<F, T, B, K>(alloc, line, language)? {
             return Err(Fail::new(format_args!("this row doesn't hold: {line}")));
         }
     }

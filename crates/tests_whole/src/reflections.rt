@@ -25,6 +25,16 @@ fn listed(alloc: Global, parameters: &[ParameterReflection]) -> Result<String, A
     lines.join(alloc, "; ")
 }
 
+/// Returns `true` if a row has these texts at its first places.
+fn are_texts(row: &Line, texts: &[&str]) -> Result<bool, Fail> {
+    for (place, text) in texts.iter().enumerate() {
+        if row.text(place)? != *text {
+            return Ok(false);
+        }
+    }
+    Ok(true)
+}
+
 /// Returns `true` if a filter has the name, the description and the parameters of a row.
 pub(crate) fn filter_is_told<P: FilterReflection>(
     alloc: Global,
@@ -33,33 +43,37 @@ pub(crate) fn filter_is_told<P: FilterReflection>(
 ) -> Result<bool, Fail> {
     let positional = listed(alloc, filter.positional_parameters())?;
     let keyword = listed(alloc, filter.keyword_parameters())?;
-    Ok(
-        filter.name() == row.text(0)?
-            && filter.description() == row.text(1)?
-            && positional.as_str() == row.text(2)?
-            && keyword.as_str() == row.text(3)?,
+    are_texts(
+        row,
+        &[
+            filter.name(),
+            filter.description(),
+            positional.as_str(),
+            keyword.as_str(),
+        ],
     )
 }
 
 /// Returns `true` if a tag has the name and the description of a row, and neither an example nor a spec.
 pub(crate) fn tag_is_told<T: TagReflection>(tag: &T, row: &Line) -> Result<bool, Fail> {
-    Ok(
-        tag.tag() == row.text(0)?
-            && tag.description() == row.text(1)?
-            && tag.example().is_none()
-            && tag.spec().is_none(),
-    )
+    let is_told = are_texts(row, &[tag.tag(), tag.description()])?;
+    Ok(is_told & tag.example().is_none() & tag.spec().is_none())
 }
 
 /// Returns `true` if a block has the tags and the description of a row, and neither an example nor a spec.
 pub(crate) fn block_is_told<B: BlockReflection>(block: &B, row: &Line) -> Result<bool, Fail> {
-    Ok(
-        block.start_tag() == row.text(0)?
-            && block.end_tag() == row.text(1)?
-            && block.description() == row.text(2)?
-            && block.example().is_none()
-            && block.spec().is_none(),
-    )
+    let texts = [block.start_tag(), block.end_tag(), block.description()];
+    let is_told = are_texts(row, &texts)?;
+    Ok(is_told & block.example().is_none() & block.spec().is_none())
+}
+
+/// Returns `true` if names with spaces between them are a text.
+fn are_joined(alloc: Global, names: &[&str], text: &str) -> Result<bool, AllocError> {
+    let mut list = Vec::new(alloc);
+    for name in names {
+        list.push(*name)?;
+    }
+    Ok(list.join(alloc, " ")?.as_str() == text)
 }
 
 /// Returns `true` if a block has the dividers of a row, and escapes and nests as the row says.
@@ -68,15 +82,10 @@ pub(crate) fn body_is_told<B: ParseBlock<Filters>>(
     block: &B,
     row: &Line,
 ) -> Result<bool, Fail> {
-    let mut dividers = Vec::new(alloc);
-    for divider in block.dividers() {
-        dividers.push(*divider)?;
-    }
-    Ok(
-        dividers.join(alloc, " ")?.as_str() == row.text(3)?
-            && block.escapes() == row.truth(4)?
-            && block.nests() == row.truth(5)?,
-    )
+    let is_divided = are_joined(alloc, block.dividers(), row.text(3)?)?;
+    let escapes = block.escapes() == row.truth(4)?;
+    let nests = block.nests() == row.truth(5)?;
+    Ok(is_divided & escapes & nests)
 }
 
 /// Name, description, parameters by place, parameters by keyword.
@@ -137,7 +146,8 @@ const LIBRARY: &str =
 /// Returns `true` if a block is as the row of a line says, with its body.
 fn block_holds<B: ParseBlock<Filters>>(alloc: Global, block: &B, line: &str) -> Result<bool, Fail> {
     let row = Line::of(alloc, line)?;
-    Ok(block_is_told(block, &row)? && body_is_told(alloc, block, &row)?)
+    let is_told = block_is_told(block, &row)?;
+    Ok(is_told & body_is_told(alloc, block, &row)?)
 }
 
 #[test]
@@ -152,9 +162,9 @@ fn blocks_tell_what_they_are(rt: HostRuntime) -> Result<(), Fail> {
         Blocks::Glob,
     ];
     for (line, block) in BLOCKS.lines().zip(blocks) {
-        let hostile = HostileBlocks::Plain(block);
         let is_told = block_holds(alloc, &block, line)?;
-        holds(is_told && block_holds(alloc, &hostile, line)?, line)?;
+        let is_hostile = block_holds(alloc, &HostileBlocks::Plain(block), line)?;
+        holds(is_told & is_hostile, line)?;
     }
     Ok(())
 }

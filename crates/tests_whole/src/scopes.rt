@@ -1,12 +1,13 @@
 //! Scopes by their own calls: frames that are pushed, looked through and popped.
 ghost use Rattle.std.specs.Prelude.{◌≡◌};
 
-use crate::nodes::{nodes_in, text};
+use crate::given::no_names;
+use crate::nodes::{page_in, text};
 use liquid_core::model::{Object, ScalarCow, Value};
 use liquid_core::runtime::{
-    BuiltRuntime, ChainedScopes, Frame, Interrupt, Runtime, RuntimeBuilder, Scopes, Template,
+    BuiltRuntime, ChainedScopes, Frame, Interrupt, Renderable, Runtime, Scopes, Template,
 };
-use liquid_core::{Error, TextSink, ValueView};
+use liquid_core::{Error, Filter, PartialStore, TextSink, ValueView};
 use std::alloc::{AllocError, Global};
 use std::test::Fail;
 use tests_lines::{holds, same};
@@ -134,32 +135,75 @@ const ROWS: [(&[Level], &str); 4] = [
     ),
 ];
 
+/// Fails for something else than what is seen over a base without names.
+fn shows<S: Scopes>(
+    alloc: Global,
+    base: S::Base,
+    levels: &[Level],
+    wanted: &str,
+) -> Result<(), Fail>
+where
+    S::Base: Drop,
+{
+    let (base, seen) = seen_over::<S>(alloc, base, levels);
+    drop(base);
+    same(seen?.as_str(), wanted)
+}
+
 #[test]
 fn frames_show_and_hide_names_in_turn(rt: HostRuntime) -> Result<(), Fail> {
     let alloc = rt.alloc();
-    for (levels, expected) in &ROWS {
-        let base: BuiltRuntime<(), ()> = RuntimeBuilder::new(alloc).build();
-        let (base, seen) = seen_over::<ChainedScopes<BuiltRuntime<(), ()>>>(alloc, base, levels);
-        drop(base);
-        same(seen?.as_str(), expected)?;
+    for (levels, wanted) in &ROWS {
+        shows::<ChainedScopes<BuiltRuntime<(), ()>>>(alloc, no_names(alloc), levels, wanted)?;
     }
     Ok(())
+}
+
+/// Renders a template over scopes of one form, and returns what it writes, and the base.
+fn rendered_over<S, X, T, B>(
+    alloc: Global,
+    template: &Template<X, T, B>,
+    base: S::Base,
+) -> (TextSink, Result<(), Error>, S::Base)
+where
+    S: Scopes,
+    X: Filter,
+    T: Renderable<S::Register>,
+    B: Renderable<S::Register>,
+    S::Store: PartialStore<X, T, B>,
+{
+    let mut sink = TextSink::new(alloc);
+    let mut scopes = S::new(alloc, base);
+    let answer = template.render_in(alloc, &mut sink, &mut scopes);
+    (sink, answer, scopes.into_base())
+}
+
+/// Fails for a template that does not write `a` over a base that is interrupted, or a base that is then not interrupted
+/// any more.
+fn ends_interrupted<X, T, B, R>(
+    alloc: Global,
+    template: &Template<X, T, B>,
+    mut base: R,
+) -> Result<(), Fail>
+where
+    X: Filter,
+    R: Runtime + Drop,
+    T: Renderable<R::Register>,
+    B: Renderable<R::Register>,
+    R::Store: PartialStore<X, T, B>,
+{
+    base.registers_mut().interrupt.set(Interrupt::Break);
+    let (sink, answer, base) = rendered_over::<ChainedScopes<R>, X, T, B>(alloc, template, base);
+    let interrupted = base.registers().interrupt.interrupted();
+    drop(base);
+    answer?;
+    same(sink.into_string()?.as_str(), "a")?;
+    holds(interrupted, "the interrupt is still set")
 }
 
 #[test]
 fn an_interrupt_at_entry_ends_a_list_after_its_first_element(rt: HostRuntime) -> Result<(), Fail> {
     let alloc = rt.alloc();
-    let template = Template::new(nodes_in(alloc, r#"[["text", "a"], ["text", "b"]]"#)?);
-    let mut base: BuiltRuntime<(), ()> = RuntimeBuilder::new(alloc).build();
-    base.registers_mut().interrupt.set(Interrupt::Break);
-    let mut sink = TextSink::new(alloc);
-    let mut scopes: ChainedScopes<BuiltRuntime<(), ()>> = ChainedScopes::new(alloc, base);
-    let answer = template.render_in(alloc, &mut sink, &mut scopes);
-    let base = scopes.into_base();
-    answer?;
-    same(sink.into_string()?.as_str(), "a")?;
-    holds(
-        base.registers().interrupt.interrupted(),
-        "the interrupt is still set",
-    )
+    let template = page_in(alloc, r#"[["text", "a"], ["text", "b"]]"#)?;
+    ends_interrupted(alloc, &template, no_names(alloc))
 }

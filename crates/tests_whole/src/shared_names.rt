@@ -1,12 +1,10 @@
 //! Names that have two meanings: which of them is tried first.
-use crate::pages::tables_hold;
+use crate::languages::{HostileLanguage, hostile_table_holds};
 use bench::block_plugins::{Blocks, HostileBlocks};
-use bench::filters::Filters;
 use bench::tag_plugins::{HostileTags, Tags};
 use liquid_core::parser::Language;
 use liquid_plugins::PluginRegistry;
 use std::alloc::{AllocError, Global};
-use std::rc::Rc;
 use std::test::Fail;
 
 /// Templates, and their results. A tag is tried before a block of its name, so the end of that block ends nothing, and
@@ -19,29 +17,37 @@ const ROWS: &str = r#"{"template": "{% box g 1 %}{{ g }}", "written": "1"}
 {"template": "{% early %}a{% mid %}b", "written": "ab"}
 {"template": "{% swap %}a{% early %}b{% mid %}c{% mid %}d{% endswap %}", "written": "dabc"}"#;
 
-/// Returns a language in which names mean two things: `box` is a tag and a block, `endbox` is the end of `b` and a tag,
-/// and `mid` is the end of `early` and a divider.
-fn shared_names(
-    alloc: Global,
-) -> Result<Language<Filters, HostileTags, HostileBlocks>, AllocError> {
+/// Returns tags of which `box` is also a block, and `endbox` the end of `b`.
+fn tags(alloc: Global) -> Result<PluginRegistry<HostileTags>, AllocError> {
     let mut tags = PluginRegistry::new(alloc);
     tags.register("box", HostileTags::Plain(Tags::Set))?;
     tags.register("endbox", HostileTags::Spin)?;
+    Ok(tags)
+}
+
+/// Returns blocks of which `box` is also a tag, and `mid` is the end of `early` and a divider.
+fn blocks(alloc: Global) -> Result<PluginRegistry<HostileBlocks>, AllocError> {
     let mut blocks = PluginRegistry::new(alloc);
     blocks.register("box", HostileBlocks::Plain(Blocks::Box))?;
     blocks.register("b", HostileBlocks::Odd)?;
     blocks.register("swap", HostileBlocks::Plain(Blocks::Swap))?;
     blocks.register("early", HostileBlocks::Early)?;
+    Ok(blocks)
+}
+
+/// Returns a language in which names mean two things: `box` is a tag and a block, `endbox` is the end of `b` and a tag,
+/// and `mid` is the end of `early` and a divider.
+fn shared_names(alloc: Global) -> Result<HostileLanguage, AllocError> {
+    let tags = tags(alloc)?;
     Ok(Language {
         filters: PluginRegistry::new(alloc),
         tags,
-        blocks,
+        blocks: blocks(alloc)?,
     })
 }
 
 #[test]
 fn the_first_of_two_meanings_is_taken(rt: HostRuntime) -> Result<(), Fail> {
     let alloc = rt.alloc();
-    let language = Rc::new(alloc, shared_names(alloc)?)?;
-    tables_hold(alloc, &[(ROWS, 6)], false, &language)
+    hostile_table_holds(alloc, (ROWS, 6), shared_names(alloc)?)
 }

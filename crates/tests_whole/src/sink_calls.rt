@@ -1,7 +1,7 @@
 //! The calls that render, each over its own runtime.
-use crate::sink_given::{Around, Page, Store, names, runtime};
-use liquid_core::runtime::{ChainedScopes, FlatScopes, Scopes};
-use liquid_core::{Error, Sink};
+use crate::sink_given::names;
+use liquid_core::runtime::{ChainedScopes, FlatScopes, Renderable, Runtime, Scopes, Template};
+use liquid_core::{Discreet, Error, Filter, PartialStore, Sink};
 use std::alloc::Global;
 use std::test::Fail;
 
@@ -17,14 +17,18 @@ pub(crate) enum Call {
 pub(crate) const CALLS: [Call; 4] = [Call::Plain, Call::Sandboxed, Call::Chained, Call::Flat];
 
 /// Renders over scopes of one form, and returns the base.
-fn over<S, K>(
+fn over<S, X, T, B, K>(
     alloc: Global,
-    page: &Page,
+    page: &Template<X, T, B>,
     sink: &mut K,
     base: S::Base,
 ) -> (Result<(), Error>, S::Base)
 where
-    S: Scopes<Register = (), Store = Store>,
+    S: Scopes<Register = ()>,
+    X: Filter,
+    T: Renderable<()>,
+    B: Renderable<()>,
+    S::Store: PartialStore<X, T, B>,
     K: Sink,
 {
     let mut scopes = S::new(alloc, base);
@@ -32,25 +36,65 @@ where
     (answer, scopes.into_base())
 }
 
-/// Makes the call, and returns its runtime, too.
-pub(crate) fn rendered<K: Sink>(
+/// Renders over a runtime, and returns it.
+fn plainly<X, T, B, R, K>(
     alloc: Global,
-    page: &Page,
+    page: &Template<X, T, B>,
+    sink: &mut K,
+    mut around: R,
+) -> (Result<(), Error>, R)
+where
+    X: Filter,
+    T: Renderable<()>,
+    B: Renderable<()>,
+    R: Runtime<Register = ()>,
+    R::Store: PartialStore<X, T, B>,
+    K: Sink,
+{
+    let answer = page.render_to(alloc, sink, &mut around);
+    (answer, around)
+}
+
+/// Renders in a sandbox over a runtime, and returns it.
+fn sandboxed<X, T, B, R, K>(
+    alloc: Global,
+    page: &Template<X, T, B>,
+    sink: &mut K,
+    mut around: R,
+) -> Result<(Result<(), Error>, R), Fail>
+where
+    X: Filter,
+    T: Discreet<()>,
+    B: Discreet<()>,
+    R: Runtime<Register = ()> + Drop,
+    R::Store: PartialStore<X, T, B>,
+    K: Sink,
+{
+    let data = names(alloc)?;
+    let answer = page.render_sandboxed(alloc, sink, &mut around, data, None);
+    Ok((answer, around))
+}
+
+/// Makes the call over a runtime, and returns it, too.
+pub(crate) fn rendered<X, T, B, R, K>(
+    alloc: Global,
+    page: &Template<X, T, B>,
     sink: &mut K,
     call: Call,
-) -> Result<(Result<(), Error>, Around), Fail> {
-    let mut around = runtime(alloc)?;
+    around: R,
+) -> Result<(Result<(), Error>, R), Fail>
+where
+    X: Filter,
+    T: Discreet<()>,
+    B: Discreet<()>,
+    R: Runtime<Register = ()> + Drop,
+    R::Store: PartialStore<X, T, B>,
+    K: Sink,
+{
     match call {
-        Call::Plain => {
-            let answer = page.render_to(alloc, sink, &mut around);
-            Ok((answer, around))
-        }
-        Call::Sandboxed => {
-            let data = names(alloc)?;
-            let answer = page.render_sandboxed(alloc, sink, &mut around, data, None);
-            Ok((answer, around))
-        }
-        Call::Chained => Ok(over::<ChainedScopes<Around>, K>(alloc, page, sink, around)),
-        Call::Flat => Ok(over::<FlatScopes<Around>, K>(alloc, page, sink, around)),
+        Call::Plain => Ok(plainly(alloc, page, sink, around)),
+        Call::Sandboxed => sandboxed(alloc, page, sink, around),
+        Call::Chained => Ok(over::<ChainedScopes<R>, X, T, B, K>(alloc, page, sink, around)),
+        Call::Flat => Ok(over::<FlatScopes<R>, X, T, B, K>(alloc, page, sink, around)),
     }
 }

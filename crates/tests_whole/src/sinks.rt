@@ -1,12 +1,12 @@
 //! Sinks: texts of any length through a writer, and the faults of sinks.
-use crate::given::runtime_of;
-use crate::pages::error_text;
+use crate::given::{no_names, runtime_of};
+use crate::pages::has_error;
 use bench::dripping::Dripping;
 use bench::languages::language;
-use liquid_core::model::ScalarCow;
-use liquid_core::runtime::{BuiltRuntime, Runtime};
-use liquid_core::{Sink, SinkFault, TextSink, WriterSink, render_source};
-use std::alloc::Global;
+use liquid_core::model::{ScalarCow, ValueCow};
+use liquid_core::runtime::Runtime;
+use liquid_core::{Error, Sink, SinkFault, TextSink, WriterSink, render_source};
+use std::alloc::{AllocError, Global};
 use std::io::{self, BufWriter, Write};
 use std::test::Fail;
 use tests_lines::{Line, holds, rows_hold, same};
@@ -29,17 +29,29 @@ impl Write for Narrow {
     }
 }
 
+/// Renders a text of the test plug-ins.
+fn render<R, K>(alloc: Global, text: &str, runtime: &mut R, sink: &mut K) -> Result<(), Error>
+where
+    R: Runtime<Register = (), Store = ()>,
+    K: Sink,
+{
+    let language = language(alloc)?;
+    render_source(alloc, text, &language, runtime, sink)
+}
+
+/// Returns the text, a name and the text again.
+fn twice(alloc: Global, text: &str) -> Result<String, AllocError> {
+    format!(in alloc; "{text}{{{{ name }}}}{text}")
+}
+
 /// Renders to a writer the text, a name and the text again.
 fn render_twice<W: Write>(alloc: Global, text: &str, writer: &mut W) -> Result<(), Fail> {
-    let mut source = text.to_string(alloc)?;
-    source.push_str("{{ name }}")?;
-    source.push_str(text)?;
-    let mut sink = WriterSink::new(writer);
-    let language = language(alloc)?;
     let mut runtime = runtime_of(alloc, r#"{"name": "World"}"#)?;
-    render_source(alloc, source.as_str(), &language, &mut runtime, &mut sink)?;
+    let source = twice(alloc, text)?;
+    let mut sink = WriterSink::new(writer);
+    let answer = render(alloc, source.as_str(), &mut runtime, &mut sink);
     let _ = sink.into_inner();
-    Ok(())
+    Ok(answer?)
 }
 
 /// Returns `true` if a list takes a text, a name's value and the text again, after what it has.
@@ -80,7 +92,7 @@ fn are_taken(alloc: Global, row: &Line) -> Result<bool, Fail> {
     let by_a_list = are_taken_by_a_list(alloc, text, wanted.as_str())?;
     let by_a_buffer = are_taken_by_a_buffer(alloc, text, wanted.as_str())?;
     let by_parts = are_taken_by_parts(alloc, text, wanted.as_str())?;
-    Ok(by_a_list && by_a_buffer && by_parts)
+    Ok(by_a_list & by_a_buffer & by_parts)
 }
 
 #[test]
@@ -115,12 +127,14 @@ fn bytes_that_are_no_text_are_refused(rt: HostRuntime) -> Result<(), Fail> {
 }
 
 /// Returns `true` if the sink takes just that of the template, and the call has this error.
-fn drips(alloc: Global, drip: &Line, runtime: &mut BuiltRuntime<(), ()>) -> Result<bool, Fail> {
-    let language = language(alloc)?;
+fn drips<R>(alloc: Global, drip: &Line, runtime: &mut R) -> Result<bool, Fail>
+where
+    R: Runtime<Register = (), Store = ()>,
+{
     let mut sink = Dripping::new(alloc, u64::try_from(drip.number(0)?)?);
-    let answer = render_source(alloc, drip.text(1)?, &language, runtime, &mut sink);
-    let refusal = error_text(alloc, &answer)?;
-    Ok(sink.as_bytes() == drip.text(2)?.as_bytes() && refusal.as_str() == drip.text(3)?)
+    let answer = render(alloc, drip.text(1)?, runtime, &mut sink);
+    let has_error = has_error(alloc, &answer, drip.text(3)?)?;
+    Ok(has_error & (sink.as_bytes() == drip.text(2)?.as_bytes()))
 }
 
 /// How many puts of a byte a sink takes, the template, what the sink took of it, and the error. An empty value makes no
@@ -145,18 +159,17 @@ fn a_sink_that_fails_keeps_the_beginning(rt: HostRuntime) -> Result<(), Fail> {
     rows_hold(rt.alloc(), DRIPS, keeps_the_beginning)
 }
 
-/// Returns the text of a name's value.
-fn text_of(alloc: Global, runtime: &BuiltRuntime<(), ()>, name: &str) -> Result<String, Fail> {
-    match runtime.get(alloc, &[ScalarCow::from(name)]) {
-        Ok(value) => Ok(value.as_view().to_kstr(alloc)?.to_string(alloc)?),
-        Err(_) => Err(Fail::from("the name has no value")),
-    }
+/// Fails for a name whose value has another text.
+fn is_text(alloc: Global, value: &ValueCow<'_>, wanted: &str) -> Result<(), Fail> {
+    same(value.as_view().to_kstr(alloc)?.as_str(), wanted)
 }
 
-#[test]
-fn a_sink_that_fails_keeps_what_was_assigned(rt: HostRuntime) -> Result<(), Fail> {
-    let alloc = rt.alloc();
-    let mut runtime = runtime_of(alloc, "{}")?;
+/// Fails for a sink that does not take the first byte of a template, and for a runtime without the name that the
+/// template assigned before the second.
+fn keeps_the_first<R>(alloc: Global, mut runtime: R) -> Result<(), Fail>
+where
+    R: Runtime<Register = (), Store = ()> + Drop,
+{
     let drip = Line::of(
         alloc,
         r#"[1, "{% set g 1 %}ab{% set g 2 %}", "a", "liquid: Failed to render\n"]"#,
@@ -165,5 +178,14 @@ fn a_sink_that_fails_keeps_what_was_assigned(rt: HostRuntime) -> Result<(), Fail
         drips(alloc, &drip, &mut runtime)?,
         "the sink has the first byte",
     )?;
-    same(text_of(alloc, &runtime, "g")?.as_str(), "1")
+    match runtime.get(alloc, &[ScalarCow::from("g")]) {
+        Ok(value) => is_text(alloc, &value, "1"),
+        Err(_) => Err(Fail::from("the name has no value")),
+    }
+}
+
+#[test]
+fn a_sink_that_fails_keeps_what_was_assigned(rt: HostRuntime) -> Result<(), Fail> {
+    let alloc = rt.alloc();
+    keeps_the_first(alloc, no_names(alloc))
 }

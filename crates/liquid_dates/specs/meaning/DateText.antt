@@ -1,5 +1,33 @@
 -- The texts that are read as dates and date times: each form relates a text to what it writes.
-use Rattle.std.specs.Prelude.{◌≡◌, ◌≢◌, ◌⊎◌, ℕ, ◌+◌, ◌-◌, ◌*◌, ◌^◌, ◌<◌, Bool, true, false, ◌&&◌, ◌||◌, ◌==◌, if◌then◌else◌, ℤ, pos, neg_ℤ, List, [], ◌∷◌, ◌++◌, length, drop, codes, map}
+use Rattle.std.specs.Prelude.{
+  ◌≡◌,
+  ◌≢◌,
+  ◌⊎◌,
+  ℕ,
+  ◌+◌,
+  ◌-◌,
+  ◌*◌,
+  ◌^◌,
+  ◌<◌,
+  Bool,
+  true,
+  false,
+  ◌&&◌,
+  ◌||◌,
+  ◌==◌,
+  if◌then◌else◌,
+  ℤ,
+  pos,
+  neg_ℤ,
+  List,
+  [],
+  ◌∷◌,
+  ◌++◌,
+  length,
+  drop,
+  codes,
+  map,
+}
 use Rattle.std.specs.Prelude.{FitsSigned}
 use Rattle.std.specs.Int.{IsInRange, w64}
 use Rattle.std.specs.List.{list_all}
@@ -199,4 +227,5 @@ SameClock a b = (a.hour ≡ b.hour) × (a.minute ≡ b.minute) × (a.second ≡ 
 -- two date times have the same parts
 abbrev pub SameDateTime : DateTime → DateTime → Type 0
 SameDateTime a b =
-    SameDate (civil_date a) (civil_date b) × SameClock (civil_time a) (civil_time b) × (nanosecond a ≡ nanosecond b) × (offset_seconds a ≡ offset_seconds b)
+    SameDate (civil_date a) (civil_date b) × SameClock (civil_time a) (civil_time b) × (nanosecond a ≡ nanosecond b)
+    × (offset_seconds a ≡ offset_seconds b)

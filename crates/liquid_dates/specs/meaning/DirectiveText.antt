@@ -1,5 +1,29 @@
 -- What a directive prints for a date time.
-use Rattle.std.specs.Prelude.{ℕ, ◌+◌, ◌-◌, ◌/◌, ◌%◌, ◌^◌, min, nat_lt, if◌then◌else◌, ℤ, pos, unsigned_abs, int_lt, int_rem, List, [], ◌∷◌, ◌++◌, length, replicate, Option, unwrap_or, codes}
+use Rattle.std.specs.Prelude.{
+  ℕ,
+  ◌+◌,
+  ◌-◌,
+  ◌/◌,
+  ◌%◌,
+  ◌^◌,
+  min,
+  nat_lt,
+  if◌then◌else◌,
+  ℤ,
+  pos,
+  unsigned_abs,
+  int_lt,
+  int_rem,
+  List,
+  [],
+  ◌∷◌,
+  ◌++◌,
+  length,
+  replicate,
+  Option,
+  unwrap_or,
+  codes,
+}
 use Rattle.std.specs.Fmt.{decimal}
 use Rattle.std.specs.Str.{byte}
 use Rattle.jiff_core.specs.Date.{weekday_of}
@@ -13,9 +37,27 @@ use Rattle.liquid_dates.specs.declared.flags.Case.{Case}
 use Rattle.liquid_dates.specs.declared.flags.Case.TheVariants.{Plain, Upper, Change}
 use Rattle.liquid_dates.specs.declared.directive.Number.{Number}
 use Rattle.liquid_dates.specs.declared.directive.Name.{Name}
-use Rattle.liquid_dates.specs.declared.directive.Name.TheVariants.{ShortMonth, WholeMonth, ShortWeekday, WholeWeekday, UpperHalf, LowerHalf, LineFeed, Tab, Percent}
+use Rattle.liquid_dates.specs.declared.directive.Name.TheVariants.{
+  ShortMonth,
+  WholeMonth,
+  ShortWeekday,
+  WholeWeekday,
+  UpperHalf,
+  LowerHalf,
+  LineFeed,
+  Tab,
+  Percent,
+}
 use Rattle.liquid_dates.specs.declared.directive.Composite.{Composite}
-use Rattle.liquid_dates.specs.declared.directive.Composite.TheVariants.{DashedDate, NamedDate, HourMinute, SlashedDate, Clock, ClockOf12, DateAndTime}
+use Rattle.liquid_dates.specs.declared.directive.Composite.TheVariants.{
+  DashedDate,
+  NamedDate,
+  HourMinute,
+  SlashedDate,
+  Clock,
+  ClockOf12,
+  DateAndTime,
+}
 use Rattle.liquid_dates.specs.declared.directive.Offset.{Offset}
 use Rattle.liquid_dates.specs.declared.directive.Offset.TheVariants.{Joined, Minutes, Seconds}
 use Rattle.liquid_dates.specs.declared.directive.Directive.{Directive}

@@ -3,7 +3,12 @@ use Rattle.std.specs.Prelude.{ℕ, List, codes}
 use Rattle.liquid_dates.specs.declared.error.DateError.{DateError}
 use Rattle.liquid_dates.specs.declared.error.DateError.TheVariants.{PartOutOfRange, OutsideYears, NoRfc2822Form, Memory as NoMemory}
 use Rattle.liquid_dates.specs.declared.error.DateFormatError.{DateFormatError}
-use Rattle.liquid_dates.specs.declared.error.DateFormatError.TheVariants.{NoFormatSpecifier, NoFormatSpecifierAfterModifier, InvalidWidth, Memory}
+use Rattle.liquid_dates.specs.declared.error.DateFormatError.TheVariants.{
+  NoFormatSpecifier,
+  NoFormatSpecifierAfterModifier,
+  InvalidWidth,
+  Memory,
+}
 
 -- what `{}` writes for an error of a date
 abbrev pub date_error_text : DateError → List ℕ

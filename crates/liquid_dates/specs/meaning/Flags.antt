@@ -1,5 +1,26 @@
 -- What is between the per cent of a directive and its letter: flags, a width, a modifier.
-use Rattle.std.specs.Prelude.{ℕ, ◌+◌, ◌-◌, ◌*◌, Bool, ◌&&◌, ◌||◌, ◌==◌, nat_le, if◌then◌else◌, List, [], ◌∷◌, Option, Some, None, fold, true, false, codes}
+use Rattle.std.specs.Prelude.{
+  ℕ,
+  ◌+◌,
+  ◌-◌,
+  ◌*◌,
+  Bool,
+  ◌&&◌,
+  ◌||◌,
+  ◌==◌,
+  nat_le,
+  if◌then◌else◌,
+  List,
+  [],
+  ◌∷◌,
+  Option,
+  Some,
+  None,
+  fold,
+  true,
+  false,
+  codes,
+}
 use Rattle.std.specs.Str.{byte}
 use Rattle.liquid_dates.specs.declared.flags.Flags.{Flags}
 use Rattle.liquid_dates.specs.declared.flags.Filling.TheVariants.{Unset, Zeros, Spaces}

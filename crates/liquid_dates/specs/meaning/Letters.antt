@@ -4,11 +4,48 @@ use Rattle.liquid_dates.specs.meaning.Flags.{is_one_of}
 use Rattle.liquid_dates.specs.declared.flags.NumberFilling.{NumberFilling}
 use Rattle.liquid_dates.specs.declared.flags.NumberFilling.TheVariants.{SpacesBeforeSign, ZerosAfterSign}
 use Rattle.liquid_dates.specs.declared.directive.Number.{Number}
-use Rattle.liquid_dates.specs.declared.directive.Number.TheVariants.{Year, Century, YearOfCentury, Month, Day, Ordinal, Hour, HourOf12, Minute, Second, WeekdayFromMonday, WeekdayFromSunday, WeekFromSunday, WeekFromMonday, IsoYear, IsoYearOfCentury, IsoWeek, UnixSeconds}
+use Rattle.liquid_dates.specs.declared.directive.Number.TheVariants.{
+  Year,
+  Century,
+  YearOfCentury,
+  Month,
+  Day,
+  Ordinal,
+  Hour,
+  HourOf12,
+  Minute,
+  Second,
+  WeekdayFromMonday,
+  WeekdayFromSunday,
+  WeekFromSunday,
+  WeekFromMonday,
+  IsoYear,
+  IsoYearOfCentury,
+  IsoWeek,
+  UnixSeconds,
+}
 use Rattle.liquid_dates.specs.declared.directive.Name.{Name}
-use Rattle.liquid_dates.specs.declared.directive.Name.TheVariants.{ShortMonth, WholeMonth, ShortWeekday, WholeWeekday, UpperHalf, LowerHalf, LineFeed, Tab, Percent}
+use Rattle.liquid_dates.specs.declared.directive.Name.TheVariants.{
+  ShortMonth,
+  WholeMonth,
+  ShortWeekday,
+  WholeWeekday,
+  UpperHalf,
+  LowerHalf,
+  LineFeed,
+  Tab,
+  Percent,
+}
 use Rattle.liquid_dates.specs.declared.directive.Composite.{Composite}
-use Rattle.liquid_dates.specs.declared.directive.Composite.TheVariants.{DashedDate, NamedDate, HourMinute, SlashedDate, Clock, ClockOf12, DateAndTime}
+use Rattle.liquid_dates.specs.declared.directive.Composite.TheVariants.{
+  DashedDate,
+  NamedDate,
+  HourMinute,
+  SlashedDate,
+  Clock,
+  ClockOf12,
+  DateAndTime,
+}
 use Rattle.liquid_dates.specs.declared.directive.Offset.TheVariants.{Joined, Minutes, Seconds}
 use Rattle.liquid_dates.specs.declared.directive.Directive.{Directive}
 use Rattle.liquid_dates.specs.declared.directive.Directive.TheVariants.{OfNumber, OfName, OfComposite, OfFraction, OfOffset}

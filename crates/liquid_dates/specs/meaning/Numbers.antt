@@ -4,7 +4,26 @@ use Rattle.jiff_core.specs.Calendar.{weekday_number}
 use Rattle.jiff_core.specs.Date.{weekday_of, ordinal}
 use Rattle.liquid_dates.specs.declared.date_time.DateTime.{DateTime}
 use Rattle.liquid_dates.specs.declared.directive.Number.{Number}
-use Rattle.liquid_dates.specs.declared.directive.Number.TheVariants.{Year, Century, YearOfCentury, Month, Day, Ordinal, Hour, HourOf12, Minute, Second, WeekdayFromMonday, WeekdayFromSunday, WeekFromSunday, WeekFromMonday, IsoYear, IsoYearOfCentury, IsoWeek, UnixSeconds}
+use Rattle.liquid_dates.specs.declared.directive.Number.TheVariants.{
+  Year,
+  Century,
+  YearOfCentury,
+  Month,
+  Day,
+  Ordinal,
+  Hour,
+  HourOf12,
+  Minute,
+  Second,
+  WeekdayFromMonday,
+  WeekdayFromSunday,
+  WeekFromSunday,
+  WeekFromMonday,
+  IsoYear,
+  IsoYearOfCentury,
+  IsoWeek,
+  UnixSeconds,
+}
 use Rattle.liquid_dates.specs.meaning.Instant.{civil_date, civil_time, day_number, unix_seconds}
 use Rattle.liquid_dates.specs.meaning.IsoWeek.{iso_year, iso_week}
 

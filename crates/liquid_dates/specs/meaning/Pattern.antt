@@ -1,11 +1,41 @@
 -- Patterns: a list of items whose joined spellings are the text, or such a list for a beginning and a rest that is
 -- refused.
-use Rattle.std.specs.Prelude.{◌≡◌, ℕ, ◌<◌, ◌^◌, ◌≤◌, Bool, true, false, ◌≢◌, ◌⊎◌, List, [], ◌∷◌, ◌++◌, Option, Some, None, Result, Ok, Err, encode_utf8, encode_utf8_all, String, string_bytes}
+use Rattle.std.specs.Prelude.{
+  ◌≡◌,
+  ℕ,
+  ◌<◌,
+  ◌^◌,
+  ◌≤◌,
+  Bool,
+  true,
+  false,
+  ◌≢◌,
+  ◌⊎◌,
+  List,
+  [],
+  ◌∷◌,
+  ◌++◌,
+  Option,
+  Some,
+  None,
+  Result,
+  Ok,
+  Err,
+  encode_utf8,
+  encode_utf8_all,
+  String,
+  string_bytes,
+}
 use Rattle.std.specs.List.{list_all}
 use Rattle.liquid_dates.specs.declared.date_time.DateTime.{DateTime}
 use Rattle.liquid_dates.specs.declared.directive.Directive.{Directive}
 use Rattle.liquid_dates.specs.declared.error.DateFormatError.{DateFormatError}
-use Rattle.liquid_dates.specs.declared.error.DateFormatError.TheVariants.{NoFormatSpecifier, NoFormatSpecifierAfterModifier, InvalidWidth, Memory}
+use Rattle.liquid_dates.specs.declared.error.DateFormatError.TheVariants.{
+  NoFormatSpecifier,
+  NoFormatSpecifierAfterModifier,
+  InvalidWidth,
+  Memory,
+}
 use Rattle.liquid_dates.specs.meaning.Flags.{is_flag, flags_of, is_digit, digits_number, width_of, is_modifier}
 use Rattle.liquid_dates.specs.meaning.Letters.{directive_of}
 use Rattle.liquid_dates.specs.meaning.DirectiveText.{directive_text}

@@ -1,6 +1,36 @@
 -- Readers of date texts. They connect the code to the forms of `DateText`: what they read is proved to be what those
 -- forms relate.
-use Rattle.std.specs.Prelude.{true, false, ◌≡◌, ℕ, zero, suc, ◌+◌, ◌-◌, ◌*◌, ◌^◌, Bool, ◌&&◌, ◌==◌, nat_lt, if◌then◌else◌, ℤ, pos, neg_ℤ, List, [], ◌∷◌, take, drop, length, Option, Some, None, option_map, option_and_then}
+use Rattle.std.specs.Prelude.{
+  true,
+  false,
+  ◌≡◌,
+  ℕ,
+  zero,
+  suc,
+  ◌+◌,
+  ◌-◌,
+  ◌*◌,
+  ◌^◌,
+  Bool,
+  ◌&&◌,
+  ◌==◌,
+  nat_lt,
+  if◌then◌else◌,
+  ℤ,
+  pos,
+  neg_ℤ,
+  List,
+  [],
+  ◌∷◌,
+  take,
+  drop,
+  length,
+  Option,
+  Some,
+  None,
+  option_map,
+  option_and_then,
+}
 use Rattle.std.specs.Borrow.{Bor}
 use Rattle.std.specs.Str.{bytes_eq}
 use Rattle.std.specs.Str.{byte}
@@ -30,7 +60,8 @@ after_byte byte (c ∷ cs) = if c == byte then Some cs else None
 -- two digits of a number below a limit
 unfoldable pub two_at : ℕ → List ℕ → Read ℕ
 two_at limit (a ∷ b ∷ rest) =
-    if is_digit a && (is_digit b && nat_lt (10 * (a - byte "0") + (b - byte "0")) limit) then Some (10 * (a - byte "0") + (b - byte "0"), rest) else None
+    if is_digit a && (is_digit b && nat_lt (10 * (a - byte "0") + (b - byte "0")) limit) then Some
+    (10 * (a - byte "0") + (b - byte "0"), rest) else None
 two_at limit _ = None
 
 infixl 10 ◌>>=◌

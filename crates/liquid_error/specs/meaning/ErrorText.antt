@@ -34,7 +34,8 @@ abbrev pub reason_text : Reason → List ℕ
 reason_text no_reason = []
 reason_text (by_text text) = line text
 reason_text by_memory = error_text None
-reason_text (by_refusal message contexts traces place reason) = refusal_text (record { message = message; contexts = contexts; traces = traces; place = place; cause = reason })
+reason_text (by_refusal message contexts traces place reason) =
+    refusal_text (record { message = message; contexts = contexts; traces = traces; place = place; cause = reason })
 
 -- a new message, with the text of the refusal as its cause
 abbrev pub lossy_chained : List ℕ → Refusal → Refusal

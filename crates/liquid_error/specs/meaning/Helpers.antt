@@ -14,7 +14,8 @@ ErrBecomes change (Err old) after = IsErrAnd after (λ new. Becomes change old n
 -- the same, where the change uses a value that was made for it
 abbrev pub ErrBecomesBy : {T M : Type 0} → (M → Type 0) → (M → Refusal → Refusal) → Result T Error → Result T Error → Type 0
 ErrBecomesBy Made change (Ok x) after = after ≡ Ok x
-ErrBecomesBy {M = M} Made change (Err old) after = IsErrAnd after (λ new. IfSome (told new) (λ r. (made : M) × Made made × (option_map (change made) (told old) ≡ Some r)))
+ErrBecomesBy {M = M} Made change (Err old) after =
+    IsErrAnd after (λ new. IfSome (told new) (λ r. (made : M) × Made made × (option_map (change made) (told old) ≡ Some r)))
 
 -- the result that a value of a context is added to
 abbrev pub key_result : {T : Type 0} → Key T → Result T Error

@@ -19,7 +19,14 @@ note_of t = record { text = string_bytes t.text; contexts = map entry_of t.conte
 
 -- a report alone, which has no cause
 abbrev pub refusal_of : Report → Refusal
-refusal_of r = record { message = string_bytes r.message; contexts = map entry_of r.contexts.items; traces = map note_of r.traces.items; place = r.place; cause = no_reason }
+refusal_of r = record {
+  message = string_bytes r.message;
+  contexts = map entry_of r.contexts.items;
+  traces =
+      map note_of r.traces.items;
+  place = r.place;
+  cause = no_reason;
+}
 
 -- the text that a kept error has
 abbrev pub kept_text : CloneableError → List ℕ

@@ -1,7 +1,17 @@
 -- The spans of a shape: where its parts begin and end.
 use Rattle.std.specs.Prelude.{◌≡◌, ℕ, ◌+◌, List, [], ◌∷◌, ◌++◌, length, ⊤}
 use Rattle.std.specs.Str.{IsCharBoundary}
-use Rattle.liquid_grammar.specs.meaning.Values.{Value, literal_value, variable_value, Index, named_index, bracketed_index, Indexes, no_index, more_indexes}
+use Rattle.liquid_grammar.specs.meaning.Values.{
+  Value,
+  literal_value,
+  variable_value,
+  Index,
+  named_index,
+  bracketed_index,
+  Indexes,
+  no_index,
+  more_indexes,
+}
 use Rattle.liquid_grammar.specs.meaning.Tokens.{Argument, positional, keyword, Filter, Chain, Token, range, chain, symbol, Tag}
 
 -- a place, and the place where the part that begins there ends

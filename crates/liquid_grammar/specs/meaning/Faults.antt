@@ -4,7 +4,17 @@ use Rattle.std.specs.Option.{option_or}
 use Rattle.std.specs.Str.{all_ascii_digits}
 use Rattle.std.specs.Str.Parse.{digits_value, without_leading_sign, starts_with_minus, signed_digits_value}
 use Rattle.liquid_grammar.specs.meaning.Literals.{Literal, integer, decimal}
-use Rattle.liquid_grammar.specs.meaning.Values.{Value, literal_value, variable_value, Index, named_index, bracketed_index, Indexes, no_index, more_indexes}
+use Rattle.liquid_grammar.specs.meaning.Values.{
+  Value,
+  literal_value,
+  variable_value,
+  Index,
+  named_index,
+  bracketed_index,
+  Indexes,
+  no_index,
+  more_indexes,
+}
 use Rattle.liquid_grammar.specs.meaning.Tokens.{Argument, positional, keyword, Filter, Chain, Tag, Token, range, chain, symbol}
 
 pub data FaultKind : Type 0 where

@@ -5,7 +5,18 @@ use Rattle.liquid_grammar.specs.declared.kind.TokenKind.{TokenKind}
 use Rattle.liquid_grammar.specs.declared.kind.TokenKind.TheVariants.{Range, Symbol, Filtered, Literal, Variable, Identifier}
 use Rattle.liquid_grammar.specs.meaning.Values as shape
 use Rattle.liquid_grammar.specs.meaning.Tokens.{Token, Chain, ChainRule, TokenRule}
-use Rattle.liquid_grammar.specs.meaning.Kinds.{Kind, range_kind, symbol_kind, filtered_kind, literal_kind, variable_kind, identifier_kind, value_kind, chain_kind, kind_of}
+use Rattle.liquid_grammar.specs.meaning.Kinds.{
+  Kind,
+  range_kind,
+  symbol_kind,
+  filtered_kind,
+  literal_kind,
+  variable_kind,
+  identifier_kind,
+  value_kind,
+  chain_kind,
+  kind_of,
+}
 use Rattle.liquid_grammar.specs.meaning.Meanings.{literal_of}
 
 -- the kind with its texts as bytes
@@ -37,4 +48,5 @@ FindsKind result found = option_map token_kind_of result ≡ option_map (λ a. c
 
 -- the result is the kind of the value that the reader found, and the rest that the reader left
 abbrev pub FindsValueKind : Option (TokenKind × Bor (List ℕ)) → Option (shape.Value × List ℕ) → Type 0
-FindsValueKind result found = option_map {U = Kind × List ℕ} (λ p. (token_kind_of p.0, p.1.now)) result ≡ option_map (λ a. (value_kind a.0, a.1)) found
+FindsValueKind result found = option_map {U = Kind × List ℕ} (λ p. (token_kind_of p.0, p.1.now)) result ≡ option_map
+    (λ a. (value_kind a.0, a.1)) found

@@ -8,7 +8,15 @@ use Rattle.liquid_grammar.specs.declared.fault.FaultKind.TheVariants.{IntegerOut
 use Rattle.liquid_grammar.specs.declared.fault.Fault.{Fault as CodeFault}
 use Rattle.liquid_grammar.specs.meaning.Literals.{Literal, nil, empty, blank, truth, text_literal, integer, decimal}
 use Rattle.liquid_grammar.specs.meaning.Tokens.{Tag, Chain}
-use Rattle.liquid_grammar.specs.meaning.Faults.{tag_fault, chain_fault, FaultKind, integer_out_of_range, decimal_not_supported, nested_too_deep, Fault}
+use Rattle.liquid_grammar.specs.meaning.Faults.{
+  tag_fault,
+  chain_fault,
+  FaultKind,
+  integer_out_of_range,
+  decimal_not_supported,
+  nested_too_deep,
+  Fault,
+}
 
 -- the literal with its text as bytes
 abbrev pub literal_of : CodeLiteral → Literal

@@ -13,8 +13,38 @@ use Rattle.liquid_grammar.specs.declared.parts.TokenParts.{TokenParts}
 use Rattle.liquid_grammar.specs.declared.parts.TokenParts.TheVariants as parts
 use Rattle.liquid_grammar.specs.meaning.Rules.{Rule, Begins, Repeated, Seen, Optional, ◌▷◌}
 use Rattle.liquid_grammar.specs.meaning.Grammar.{White, Closer}
-use Rattle.liquid_grammar.specs.meaning.Values.{Value, literal_value, variable_value, Index, named_index, bracketed_index, gather, CloseBracket, ValueRule, IndexRule}
-use Rattle.liquid_grammar.specs.meaning.Tokens.{Argument, positional, keyword, Filter, Chain, Token, range, chain, symbol, Following, ArgumentRule, Arguments, arguments_of, FilterRule, ChainRule, RangeRule, ExpressionStart, TagRule}
+use Rattle.liquid_grammar.specs.meaning.Values.{
+  Value,
+  literal_value,
+  variable_value,
+  Index,
+  named_index,
+  bracketed_index,
+  gather,
+  CloseBracket,
+  ValueRule,
+  IndexRule,
+}
+use Rattle.liquid_grammar.specs.meaning.Tokens.{
+  Argument,
+  positional,
+  keyword,
+  Filter,
+  Chain,
+  Token,
+  range,
+  chain,
+  symbol,
+  Following,
+  ArgumentRule,
+  Arguments,
+  arguments_of,
+  FilterRule,
+  ChainRule,
+  RangeRule,
+  ExpressionStart,
+  TagRule,
+}
 use Rattle.liquid_grammar.specs.meaning.Kinds.{Kind, chain_kind}
 use Rattle.liquid_grammar.specs.meaning.KindMeanings.{token_kind_of}
 use Rattle.liquid_grammar.specs.meaning.Literals.{Literal}

@@ -34,7 +34,8 @@ pub data Else {A : Type 0} (R S : Rule A) (s rest : List ℕ) (shape : A) : Type
 -- R as often as a match of it begins
 pub data Repeated {A : Type 0} (R : Rule A) : List ℕ → List ℕ → List A → Type 0 where
   ends : {s : List ℕ} → ¬ (Begins R s) → Repeated R s s []
-  more : {s middle rest : List ℕ} {shape : A} {shapes : List A} → R s middle shape → Repeated R middle rest shapes → Repeated R s rest (shape ∷ shapes)
+  more : {s middle rest : List ℕ} {shape : A} {shapes : List A} → R s middle shape → Repeated R middle rest shapes
+      → Repeated R s rest (shape ∷ shapes)
 
 -- R, with what f makes of its shape
 pub record Seen {A B : Type 0} (f : A → B) (R : Rule A) (s rest : List ℕ) (shape : B) : Type 0 where

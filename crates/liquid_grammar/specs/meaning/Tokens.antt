@@ -80,7 +80,8 @@ RangeRule = RangeStart ▷ Then (ValueRule ◁ Dots) ValueRule ◁ RangeEnd
 
 -- `<=`, `>=`, `==`, `!=` or `<>`
 abbrev pub is_double : ℕ × ℕ → Bool
-is_double p = ((p.1 == byte "=") && (((p.0 == byte "<" || p.0 == byte ">") || p.0 == byte "=") || p.0 == byte "!")) || (p.0 == byte "<" && p.1 == byte ">")
+is_double p = ((p.1 == byte "=") && (((p.0 == byte "<" || p.0 == byte ">") || p.0 == byte "=") || p.0 == byte "!")) ||
+    (p.0 == byte "<" && p.1 == byte ">")
 
 -- `<`, `>`, `=`, `,` or `:`
 abbrev pub is_single : ℕ → Bool

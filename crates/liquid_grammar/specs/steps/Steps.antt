@@ -1,5 +1,32 @@
 -- Readers: what each rule finds, computed. They connect the code to the rules, and no public clause cites them.
-use Rattle.std.specs.Prelude.{◌≡◌, ℕ, zero, suc, ◌-◌, ◌+◌, ◌<◌, ◌==◌, ◌&&◌, ◌||◌, Bool, cond, not, List, [], ◌∷◌, length, take, drop, slice_index, Option, Some, None, option_map, option_and_then, is_some}
+use Rattle.std.specs.Prelude.{
+  ◌≡◌,
+  ℕ,
+  zero,
+  suc,
+  ◌-◌,
+  ◌+◌,
+  ◌<◌,
+  ◌==◌,
+  ◌&&◌,
+  ◌||◌,
+  Bool,
+  cond,
+  not,
+  List,
+  [],
+  ◌∷◌,
+  length,
+  take,
+  drop,
+  slice_index,
+  Option,
+  Some,
+  None,
+  option_map,
+  option_and_then,
+  is_some,
+}
 use Rattle.std.specs.Option.{option_or}
 use Rattle.std.specs.List.{prefix_len}
 use Rattle.std.specs.Str.{IsCharBoundary}

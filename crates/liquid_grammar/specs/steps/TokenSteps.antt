@@ -1,5 +1,26 @@
 -- Readers of literals, values, filters, chains, tokens and tags. Like those of Steps, no public clause cites them.
-use Rattle.std.specs.Prelude.{ℕ, zero, suc, ◌==◌, ◌||◌, Bool, true, cond, not, List, [], ◌∷◌, length, Option, Some, None, option_map, is_some, drop, slice_index}
+use Rattle.std.specs.Prelude.{
+  ℕ,
+  zero,
+  suc,
+  ◌==◌,
+  ◌||◌,
+  Bool,
+  true,
+  cond,
+  not,
+  List,
+  [],
+  ◌∷◌,
+  length,
+  Option,
+  Some,
+  None,
+  option_map,
+  is_some,
+  drop,
+  slice_index,
+}
 use Rattle.std.specs.List.{prefix_len}
 use Rattle.std.specs.Char.{is_ascii_digit}
 use Rattle.liquid_grammar.specs.meaning.Bytes.{is_white, starts_name}
@@ -7,9 +28,56 @@ use Rattle.liquid_grammar.specs.meaning.Rules.{Placed}
 use Rattle.liquid_grammar.specs.meaning.Grammar.{is_literal_word}
 use Rattle.liquid_grammar.specs.meaning.Literals.{Literal, word_literal, text_literal, integer, decimal}
 use Rattle.liquid_grammar.specs.meaning.Values.{Value, Index, named_index, placed_literal, placed_variable, placed_bracket}
-use Rattle.liquid_grammar.specs.meaning.Tokens.{Argument, positional, keyword, Filter, Chain, Tag, Token, range, chain, symbol, arguments_of, is_double, is_single}
-use Rattle.liquid_grammar.specs.steps.Steps.{Reader, one, byte, both, either, seen, only, text, right, left, run, white, opener, closer, identifier, name}
-use Rattle.liquid_grammar.specs.meaning.Bytes.{bar, close_brace, close_paren, close_square, colon, comma, dash, dot, double_quote, open_brace, open_paren, open_square, percent, plus, single_quote}
+use Rattle.liquid_grammar.specs.meaning.Tokens.{
+  Argument,
+  positional,
+  keyword,
+  Filter,
+  Chain,
+  Tag,
+  Token,
+  range,
+  chain,
+  symbol,
+  arguments_of,
+  is_double,
+  is_single,
+}
+use Rattle.liquid_grammar.specs.steps.Steps.{
+  Reader,
+  one,
+  byte,
+  both,
+  either,
+  seen,
+  only,
+  text,
+  right,
+  left,
+  run,
+  white,
+  opener,
+  closer,
+  identifier,
+  name,
+}
+use Rattle.liquid_grammar.specs.meaning.Bytes.{
+  bar,
+  close_brace,
+  close_paren,
+  close_square,
+  colon,
+  comma,
+  dash,
+  dot,
+  double_quote,
+  open_brace,
+  open_paren,
+  open_square,
+  percent,
+  plus,
+  single_quote,
+}
 
 abbrev pub not_ahead : {A : Type 0} → Reader A → Reader (Unit {0})
 not_ahead f s = cond (is_some (f s)) None (Some (tt, s))

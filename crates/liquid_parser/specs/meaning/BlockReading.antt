@@ -1,5 +1,25 @@
 -- What the cursor over a block's elements returns, and the result of parsing them.
-use Rattle.std.specs.Prelude.{◌≡◌, ℕ, Bool, false, true, List, [], ◌∷◌, ◌++◌, length, if◌then◌else◌, bytes_eq, Option, Some, None, Result, Ok, Err, IfSome}
+use Rattle.std.specs.Prelude.{
+  ◌≡◌,
+  ℕ,
+  Bool,
+  false,
+  true,
+  List,
+  [],
+  ◌∷◌,
+  ◌++◌,
+  length,
+  if◌then◌else◌,
+  bytes_eq,
+  Option,
+  Some,
+  None,
+  Result,
+  Ok,
+  Err,
+  IfSome,
+}
 use Rattle.liquid_error.specs.declared.error.Error.{Error}
 use Rattle.liquid_error.specs.meaning.Refusal.{Refusal, ok_then}
 use Rattle.liquid_error.specs.meaning.Told.{told}

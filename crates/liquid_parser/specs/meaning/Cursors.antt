@@ -1,5 +1,25 @@
 -- What the cursor over a tag's tokens returns, and the results of attempts to read a token.
-use Rattle.std.specs.Prelude.{◌≡◌, ℕ, List, [], ◌∷◌, ◌++◌, length, Option, Some, None, Result, Ok, Err, IfSome, bytes_eq, if◌then◌else◌, ⊤, option_and_then, option_map}
+use Rattle.std.specs.Prelude.{
+  ◌≡◌,
+  ℕ,
+  List,
+  [],
+  ◌∷◌,
+  ◌++◌,
+  length,
+  Option,
+  Some,
+  None,
+  Result,
+  Ok,
+  Err,
+  IfSome,
+  bytes_eq,
+  if◌then◌else◌,
+  ⊤,
+  option_and_then,
+  option_map,
+}
 use Rattle.std.specs.Result.{result_ok}
 use Rattle.liquid_error.specs.declared.error.Error.{Error}
 use Rattle.liquid_error.specs.meaning.Refusal.{Refusal, ok_then}
@@ -16,7 +36,19 @@ use Rattle.liquid_parser.specs.declared.cursor.token.TagToken.{TagToken}
 use Rattle.liquid_parser.specs.declared.cursor.token.TryMatchToken.{TryMatchToken}
 use Rattle.liquid_parser.specs.declared.cursor.token.TryMatchToken.TheVariants.{Matches, Fails}
 use Rattle.liquid_parser.specs.declared.cursor.tokens.TagTokenIter.{TagTokenIter}
-use Rattle.liquid_parser.specs.meaning.Handed.{Token, Tokens, TokenShape, Call, handed_token, chain, range, symbol, expression_meant, expect_next, or_unexpected}
+use Rattle.liquid_parser.specs.meaning.Handed.{
+  Token,
+  Tokens,
+  TokenShape,
+  Call,
+  handed_token,
+  chain,
+  range,
+  symbol,
+  expression_meant,
+  expect_next,
+  or_unexpected,
+}
 use Rattle.liquid_parser.specs.meaning.Lang.{Filters}
 use Rattle.liquid_parser.specs.meaning.Plugins.{AreTokens}
 

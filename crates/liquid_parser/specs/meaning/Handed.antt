@@ -1,5 +1,25 @@
 -- What plug-ins are given: tokens without the text around them, and arguments of filters.
-use Rattle.std.specs.Prelude.{ℕ, ◌-◌, List, [], ◌∷◌, map, length, take, Option, Some, None, option_and_then, Result, Ok, Err, ok_or, unwrap_or, codes, pos}
+use Rattle.std.specs.Prelude.{
+  ℕ,
+  ◌-◌,
+  List,
+  [],
+  ◌∷◌,
+  map,
+  length,
+  take,
+  Option,
+  Some,
+  None,
+  option_and_then,
+  Result,
+  Ok,
+  Err,
+  ok_or,
+  unwrap_or,
+  codes,
+  pos,
+}
 use Rattle.liquid_error.specs.declared.place.Place.{Place}
 use Rattle.liquid_error.specs.meaning.Refusal.{Refusal, located}
 use Rattle.liquid_grammar.specs.meaning.Literals as matched

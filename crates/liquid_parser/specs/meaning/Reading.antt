@@ -1,5 +1,34 @@
 -- What a text is read as: the result is a function of the finite list of its elements.
-use Rattle.std.specs.Prelude.{◌≡◌, ℕ, zero, suc, ◌+◌, Bool, true, false, ◌&&◌, if◌then◌else◌, nat_lt, bytes_eq, List, [], ◌∷◌, ◌++◌, map, length, Option, Some, None, option_map, unwrap_or, Result, Ok, Err, IfSome, codes}
+use Rattle.std.specs.Prelude.{
+  ◌≡◌,
+  ℕ,
+  zero,
+  suc,
+  ◌+◌,
+  Bool,
+  true,
+  false,
+  ◌&&◌,
+  if◌then◌else◌,
+  nat_lt,
+  bytes_eq,
+  List,
+  [],
+  ◌∷◌,
+  ◌++◌,
+  map,
+  length,
+  Option,
+  Some,
+  None,
+  option_map,
+  unwrap_or,
+  Result,
+  Ok,
+  Err,
+  IfSome,
+  codes,
+}
 use Rattle.std.specs.Option.{option_or, option_map_or}
 use Rattle.std.specs.List.{list_any}
 use Rattle.liquid_error.specs.declared.place.Place.{Place}
@@ -8,7 +37,15 @@ use Rattle.liquid_error.specs.meaning.Told.{told}
 use Rattle.liquid_error.specs.meaning.Refusal.{Refusal, located, or_placed, with_context, with_trace, ok_then}
 use Rattle.liquid_grammar.specs.meaning.Bytes.{open_brace}
 use Rattle.liquid_grammar.specs.meaning.Tokens as token
-use Rattle.liquid_grammar.specs.meaning.Faults.{Fault, FaultKind, integer_out_of_range, decimal_not_supported, nested_too_deep, chain_fault, tag_fault}
+use Rattle.liquid_grammar.specs.meaning.Faults.{
+  Fault,
+  FaultKind,
+  integer_out_of_range,
+  decimal_not_supported,
+  nested_too_deep,
+  chain_fault,
+  tag_fault,
+}
 use Rattle.liquid_grammar.specs.meaning.Cover.{Element, raw, tag_element, expression, invalid, text_of, joined, Cover}
 use Rattle.liquid_plugins.specs.meaning.Chain.{ChainShape}
 use Rattle.liquid_plugins.specs.meaning.ArgumentsOf.{Arguments}

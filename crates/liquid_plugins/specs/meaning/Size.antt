@@ -1,6 +1,18 @@
 -- The number of plug-in nodes in a list of nodes, at any depth.
 use Rattle.std.specs.Prelude.{ℕ, ◌+◌}
-use Rattle.liquid_plugins.specs.meaning.Nodes.{NodeShape, text_node, chain_node, tag_node, block_node, Nodes, no_nodes, node, Parts, no_parts, part}
+use Rattle.liquid_plugins.specs.meaning.Nodes.{
+  NodeShape,
+  text_node,
+  chain_node,
+  tag_node,
+  block_node,
+  Nodes,
+  no_nodes,
+  node,
+  Parts,
+  no_parts,
+  part,
+}
 
 module _ {F T B : Type 0} where
   abbrev mutual

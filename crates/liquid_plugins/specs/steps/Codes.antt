@@ -5,7 +5,19 @@ use Rattle.std.proofs.Common.{ap, ◌∙◌}
 use Rattle.liquid_value.specs.meaning.Tree.{Tree, nil}
 use Rattle.liquid_plugins.specs.meaning.Chain.{ChainShape}
 use Rattle.liquid_plugins.specs.meaning.Expression.{ExpressionShape, literal, variable, Indexes, no_indexes, index}
-use Rattle.liquid_plugins.specs.steps.TreeCodes.{Pairs, leaf, pair, coded_pairs, Leaf, of_scalar, nothing, coded_leaf, tree_pairs, tree_back, tree_same}
+use Rattle.liquid_plugins.specs.steps.TreeCodes.{
+  Pairs,
+  leaf,
+  pair,
+  coded_pairs,
+  Leaf,
+  of_scalar,
+  nothing,
+  coded_leaf,
+  tree_pairs,
+  tree_back,
+  tree_same,
+}
 
 mutual
   pub expression_pairs : ExpressionShape → Pairs Leaf

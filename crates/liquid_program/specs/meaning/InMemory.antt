@@ -1,5 +1,25 @@
 -- What a run of the program over files in memory shows on its output.
-use Rattle.std.specs.Prelude.{◌≡◌, String, ℕ, Bool, true, false, ◌⊎◌, List, [], ◌++◌, Option, None, Some, MatchOption, Ok, Err, map, string_bytes, option_map}
+use Rattle.std.specs.Prelude.{
+  ◌≡◌,
+  String,
+  ℕ,
+  Bool,
+  true,
+  false,
+  ◌⊎◌,
+  List,
+  [],
+  ◌++◌,
+  Option,
+  None,
+  Some,
+  MatchOption,
+  Ok,
+  Err,
+  map,
+  string_bytes,
+  option_map,
+}
 use Rattle.std.specs.BTreeMap.{BTreeMap, get_by_text}
 use Rattle.std.specs.Global.{Vec}
 use Rattle.std.specs.declared.alloc.Global.{Global}

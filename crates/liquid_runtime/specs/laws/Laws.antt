@@ -14,7 +14,18 @@ use Rattle.liquid_runtime.specs.meaning.NamesSeen.{lookup, names_seen}
 use Rattle.liquid_runtime.specs.meaning.Roots.{NamesOf}
 use Rattle.liquid_runtime.specs.meaning.Lookup.{try_path, found}
 use Rattle.liquid_runtime.specs.meaning.Sets.{put_global, put_index}
-use Rattle.liquid_runtime.specs.meaning.Frames.{begin_stack, begin_global, begin_sandboxed, begin_isolated, built_view, sandboxed_frame, isolated_frame, global_frame, restored_by, ending}
+use Rattle.liquid_runtime.specs.meaning.Frames.{
+  begin_stack,
+  begin_global,
+  begin_sandboxed,
+  begin_isolated,
+  built_view,
+  sandboxed_frame,
+  isolated_frame,
+  global_frame,
+  restored_by,
+  ending,
+}
 
 -- of two maps laid over one another, the left one comes first
 abbrev pub LeftNamesFirst : Type 0

@@ -60,7 +60,8 @@ greatest_magnitude bytes = if starts_with_minus bytes then 2 ^ 63 else 2 ^ 63 - 
 
 -- an optional sign, one digit or more, and a number in range
 abbrev pub is_whole_number : List ℕ → Bool
-is_whole_number bytes = nat_lt 0 (length (without_leading_sign bytes)) && (all_ascii_digits (without_leading_sign bytes) && nat_le (digits_value 10 (without_leading_sign bytes)) (greatest_magnitude bytes))
+is_whole_number bytes = nat_lt 0 (length (without_leading_sign bytes)) &&
+    (all_ascii_digits (without_leading_sign bytes) && nat_le (digits_value 10 (without_leading_sign bytes)) (greatest_magnitude bytes))
 
 -- the whole number that a text writes, if it writes one
 abbrev pub whole_number_of_text : List ℕ → Option ℤ

@@ -16,13 +16,22 @@ use Rattle.liquid_scalar.specs.meaning.Scalar.{Scal, integer, boolean, text, dat
 use Rattle.liquid_scalar.specs.meaning.ScalarCompare.{instant_on, scalar_eq, scalar_cmp, same_scalar, scalar_hash}
 
 -- with the same time of day and offset on two days, the instants compare as the days do
-ranked_by_day : (a b s o n : ℤ) (r : Ordering) → MatchOrdering r ((((a *ℤ pos 86_400 +ℤ s) -ℤ o) *ℤ pos 1_000_000_000 +ℤ n) <ℤ (((b *ℤ pos 86_400 +ℤ s) -ℤ o) *ℤ pos 1_000_000_000 +ℤ n)) ((((a *ℤ pos 86_400 +ℤ s) -ℤ o) *ℤ pos 1_000_000_000 +ℤ n) ≡ (((b *ℤ pos 86_400 +ℤ s) -ℤ o) *ℤ pos 1_000_000_000 +ℤ n)) ((((b *ℤ pos 86_400 +ℤ s) -ℤ o) *ℤ pos 1_000_000_000 +ℤ n) <ℤ (((a *ℤ pos 86_400 +ℤ s) -ℤ o) *ℤ pos 1_000_000_000 +ℤ n)) → MatchOrdering r (a <ℤ b) (a ≡ b) (b <ℤ a)
+ranked_by_day : (a b s o n : ℤ) (r : Ordering) → MatchOrdering r
+    ((((a *ℤ pos 86_400 +ℤ s) -ℤ o) *ℤ pos 1_000_000_000 +ℤ n) <ℤ (((b *ℤ pos 86_400 +ℤ s) -ℤ o) *ℤ pos 1_000_000_000 +ℤ n))
+    ((((a *ℤ pos 86_400 +ℤ s) -ℤ o) *ℤ pos 1_000_000_000 +ℤ n) ≡ (((b *ℤ pos 86_400 +ℤ s) -ℤ o) *ℤ pos 1_000_000_000 +ℤ n))
+    ((((b *ℤ pos 86_400 +ℤ s) -ℤ o) *ℤ pos 1_000_000_000 +ℤ n) <ℤ (((a *ℤ pos 86_400 +ℤ s) -ℤ o) *ℤ pos 1_000_000_000 +ℤ n))
+    → MatchOrdering r (a <ℤ b) (a ≡ b) (b <ℤ a)
 ranked_by_day a b s o n Less h = omega (arith, ints)
 ranked_by_day a b s o n Equal h = omega (arith, ints)
 ranked_by_day a b s o n Greater h = omega (arith, ints)
 
-cmp_by_day : (a b s o n : ℤ) → int_cmp (((a *ℤ pos 86_400 +ℤ s) -ℤ o) *ℤ pos 1_000_000_000 +ℤ n) (((b *ℤ pos 86_400 +ℤ s) -ℤ o) *ℤ pos 1_000_000_000 +ℤ n) ≡ int_cmp a b
-cmp_by_day a b s o n = int_cmp_is a b (int_cmp (((a *ℤ pos 86_400 +ℤ s) -ℤ o) *ℤ pos 1_000_000_000 +ℤ n) (((b *ℤ pos 86_400 +ℤ s) -ℤ o) *ℤ pos 1_000_000_000 +ℤ n)) (ranked_by_day a b s o n (int_cmp (((a *ℤ pos 86_400 +ℤ s) -ℤ o) *ℤ pos 1_000_000_000 +ℤ n) (((b *ℤ pos 86_400 +ℤ s) -ℤ o) *ℤ pos 1_000_000_000 +ℤ n)) (int_ranks (((a *ℤ pos 86_400 +ℤ s) -ℤ o) *ℤ pos 1_000_000_000 +ℤ n) (((b *ℤ pos 86_400 +ℤ s) -ℤ o) *ℤ pos 1_000_000_000 +ℤ n)))
+cmp_by_day : (a b s o n : ℤ) → int_cmp (((a *ℤ pos 86_400 +ℤ s) -ℤ o) *ℤ pos 1_000_000_000 +ℤ n)
+    (((b *ℤ pos 86_400 +ℤ s) -ℤ o) *ℤ pos 1_000_000_000 +ℤ n) ≡ int_cmp a b
+cmp_by_day a b s o n = int_cmp_is a b (int_cmp (((a *ℤ pos 86_400 +ℤ s) -ℤ o) *ℤ pos 1_000_000_000 +ℤ n)
+    (((b *ℤ pos 86_400 +ℤ s) -ℤ o) *ℤ pos 1_000_000_000 +ℤ n))
+    (ranked_by_day a b s o n (int_cmp (((a *ℤ pos 86_400 +ℤ s) -ℤ o) *ℤ pos 1_000_000_000 +ℤ n)
+    (((b *ℤ pos 86_400 +ℤ s) -ℤ o) *ℤ pos 1_000_000_000 +ℤ n))
+    (int_ranks (((a *ℤ pos 86_400 +ℤ s) -ℤ o) *ℤ pos 1_000_000_000 +ℤ n) (((b *ℤ pos 86_400 +ℤ s) -ℤ o) *ℤ pos 1_000_000_000 +ℤ n)))
 
 -- a date time moved to a date compares with itself as that date does with its own
 pub moved_before : (d : CivilDate) (dt : DateTime) → int_cmp (instant_on d dt) (instant dt) ≡ int_cmp (epoch_day d) (day_number dt)

@@ -9,7 +9,17 @@ use Rattle.std.specs.FinMap.{get, empty}
 use Rattle.liquid_value.specs.meaning.Tree.{Tree}
 use Rattle.liquid_runtime.specs.meaning.Maps.{Names, over}
 use Rattle.liquid_runtime.specs.meaning.View.{View}
-use Rattle.liquid_runtime.specs.meaning.Frames.{Restore, restore_nothing, restore_sandboxed, restore_isolated, restored_by, stack_frame, global_frame, begin_stack, begin_sandboxed}
+use Rattle.liquid_runtime.specs.meaning.Frames.{
+  Restore,
+  restore_nothing,
+  restore_sandboxed,
+  restore_isolated,
+  restored_by,
+  stack_frame,
+  global_frame,
+  begin_stack,
+  begin_sandboxed,
+}
 use Rattle.liquid_runtime.specs.steps.FrameViews.{assigned_view}
 use Rattle.liquid_runtime.specs.meaning.Calls.{registers_of, with_registers}
 use Rattle.liquid_runtime.specs.declared.registers.Registers.{Registers}

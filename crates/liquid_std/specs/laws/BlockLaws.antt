@@ -18,7 +18,18 @@ use Rattle.liquid_std.specs.declared.blocks.StdBlockShape.{StdBlockShape}
 use Rattle.liquid_std.specs.declared.blocks.StdBlockShape.TheVariants as shape
 use Rattle.liquid_std.specs.declared.blocks.StdProgressShape.{StdProgressShape}
 use Rattle.liquid_std.specs.declared.blocks.StdProgressShape.TheVariants.{Once, Rounds, Table, Capturing}
-use Rattle.liquid_std.specs.meaning.Blocks.{begins_as, block_nodes, block_starts, block_takes, in_capture, in_rounds, in_table, over_items, over_table, part_turn}
+use Rattle.liquid_std.specs.meaning.Blocks.{
+  begins_as,
+  block_nodes,
+  block_starts,
+  block_takes,
+  in_capture,
+  in_rounds,
+  in_table,
+  over_items,
+  over_table,
+  part_turn,
+}
 use Rattle.liquid_std.specs.meaning.Captures.{captures, text_value}
 
 module _ {Reg : Type 0} (held : MarksIn Reg) where

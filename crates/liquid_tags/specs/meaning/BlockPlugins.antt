@@ -1,5 +1,24 @@
 -- The names of the blocks, and what they make from their tokens and bodies.
-use Rattle.std.specs.Prelude.{ℕ, List, [], ◌∷◌, ◌++◌, codes, Bool, true, false, cond, bytes_eq, Option, None, Some, option_map, Result, Ok, Err}
+use Rattle.std.specs.Prelude.{
+  ℕ,
+  List,
+  [],
+  ◌∷◌,
+  ◌++◌,
+  codes,
+  Bool,
+  true,
+  false,
+  cond,
+  bytes_eq,
+  Option,
+  None,
+  Some,
+  option_map,
+  Result,
+  Ok,
+  Err,
+}
 use Rattle.liquid_error.specs.meaning.Refusal.{Refusal, located, ok_then}
 use Rattle.liquid_parser.specs.meaning.Cursors.{expect_str}
 use Rattle.liquid_parser.specs.meaning.Handed.{Token, Tokens, TokenShape, chain, range, symbol, expect_identifier, value_of}

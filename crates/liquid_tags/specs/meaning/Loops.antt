@@ -1,5 +1,25 @@
 -- The turns of a loop: one for each item, and one after the last.
-use Rattle.std.specs.Prelude.{ℕ, zero, suc, ◌+◌, ◌-◌, ◌==◌, List, drop, slice_get, codes, pos, Bool, true, false, cond, Option, None, Some, Ok}
+use Rattle.std.specs.Prelude.{
+  ℕ,
+  zero,
+  suc,
+  ◌+◌,
+  ◌-◌,
+  ◌==◌,
+  List,
+  drop,
+  slice_get,
+  codes,
+  pos,
+  Bool,
+  true,
+  false,
+  cond,
+  Option,
+  None,
+  Some,
+  Ok,
+}
 use Rattle.std.specs.FinMap.{empty, insert}
 use Rattle.liquid_scalar.specs.meaning.Scalar.{integer, boolean}
 use Rattle.liquid_value.specs.meaning.Tree.{Tree, scalar, object, Members, no_members, member}

@@ -1,5 +1,26 @@
 -- What a loop goes over: the items of a value or of a range.
-use Rattle.std.specs.Prelude.{ℕ, zero, suc, ℤ, pos, unsigned_abs, List, [], ◌∷◌, ◌+◌, ◌+ℤ◌, ◌-ℤ◌, codes, cond, nat_lt, ok_or, option_and_then, Result, Ok, Err}
+use Rattle.std.specs.Prelude.{
+  ℕ,
+  zero,
+  suc,
+  ℤ,
+  pos,
+  unsigned_abs,
+  List,
+  [],
+  ◌∷◌,
+  ◌+◌,
+  ◌+ℤ◌,
+  ◌-ℤ◌,
+  codes,
+  cond,
+  nat_lt,
+  ok_or,
+  option_and_then,
+  Result,
+  Ok,
+  Err,
+}
 use Rattle.std.specs.Fmt.{signed_decimal}
 use Rattle.std.specs.Int.Signed.{le_z}
 use Rattle.liquid_error.specs.meaning.Refusal.{Refusal, plain, with_context, ok_then}

@@ -1,5 +1,25 @@
 -- What rendering is made of: a piece, a refusal, one action after another, a frame.
-use Rattle.std.specs.Prelude.{ℕ, zero, suc, List, [], ◌∷◌, ◌++◌, map, true, false, cond, is_some, Option, None, Some, option_map, Result, Ok, Err}
+use Rattle.std.specs.Prelude.{
+  ℕ,
+  zero,
+  suc,
+  List,
+  [],
+  ◌∷◌,
+  ◌++◌,
+  map,
+  true,
+  false,
+  cond,
+  is_some,
+  Option,
+  None,
+  Some,
+  option_map,
+  Result,
+  Ok,
+  Err,
+}
 use Rattle.liquid_error.specs.meaning.Refusal.{Refusal, Note}
 use Rattle.liquid_value.specs.meaning.Tree.{Tree}
 use Rattle.liquid_value.specs.meaning.Render.{render}

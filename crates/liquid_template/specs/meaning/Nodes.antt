@@ -4,9 +4,32 @@ use Rattle.liquid_error.specs.meaning.Refusal.{Refusal}
 use Rattle.liquid_runtime.specs.meaning.Written.{with_written}
 use Rattle.liquid_plugins.specs.meaning.Chain.{FilterMeaning, chain_value}
 use Rattle.liquid_plugins.specs.meaning.Turns.{TurnShape, text_turn, body_turn, partial_turn, capture_turn, end_turn, NodeMeaning}
-use Rattle.liquid_plugins.specs.meaning.Nodes.{NodeShape, text_node, chain_node, tag_node, block_node, Nodes, no_nodes, node, Parts, no_parts, part}
+use Rattle.liquid_plugins.specs.meaning.Nodes.{
+  NodeShape,
+  text_node,
+  chain_node,
+  tag_node,
+  block_node,
+  Nodes,
+  no_nodes,
+  node,
+  Parts,
+  no_parts,
+  part,
+}
 use Rattle.liquid_template.specs.meaning.Run.{Action, written}
-use Rattle.liquid_template.specs.meaning.Actions.{done, refuses, writes, writes_value, asks, and_then, unless_interrupted, under, silent, part_at}
+use Rattle.liquid_template.specs.meaning.Actions.{
+  done,
+  refuses,
+  writes,
+  writes_value,
+  asks,
+  and_then,
+  unless_interrupted,
+  under,
+  silent,
+  part_at,
+}
 
 -- what rendering depends on: the register's default, what the plug-ins mean, and the parsed partial of each name, if
 -- there is a store

@@ -1,6 +1,27 @@
 -- The outcome of writing a run to a sink: the answer, what the sink took, how often it failed, and the view that is
 -- left.
-use Rattle.std.specs.Prelude.{◌≡◌, ℕ, ◌+◌, ◌<◌, ◌⊎◌, true, false, List, [], ◌∷◌, ◌++◌, length, None, Some, Result, Ok, Err, MatchOption, OnSome, codes}
+use Rattle.std.specs.Prelude.{
+  ◌≡◌,
+  ℕ,
+  ◌+◌,
+  ◌<◌,
+  ◌⊎◌,
+  true,
+  false,
+  List,
+  [],
+  ◌∷◌,
+  ◌++◌,
+  length,
+  None,
+  Some,
+  Result,
+  Ok,
+  Err,
+  MatchOption,
+  OnSome,
+  codes,
+}
 use Rattle.liquid_error.specs.declared.error.Error.{Error}
 use Rattle.liquid_error.specs.meaning.Refusal.{Refusal, Note, plain}
 use Rattle.liquid_error.specs.meaning.Told.{told}

@@ -1,5 +1,28 @@
 -- What the cycle owes while it continues with the turns of a node.
-use Rattle.std.specs.Prelude.{◌≡◌, Bool, true, false, is_ok, ℕ, suc, ◌-◌, ◌<◌, ◌≤◌, List, [], ◌∷◌, Option, None, Some, Result, Ok, Err, IsOk, IsErrAnd, IfSome}
+use Rattle.std.specs.Prelude.{
+  ◌≡◌,
+  Bool,
+  true,
+  false,
+  is_ok,
+  ℕ,
+  suc,
+  ◌-◌,
+  ◌<◌,
+  ◌≤◌,
+  List,
+  [],
+  ◌∷◌,
+  Option,
+  None,
+  Some,
+  Result,
+  Ok,
+  Err,
+  IsOk,
+  IsErrAnd,
+  IfSome,
+}
 use Rattle.liquid_error.specs.declared.error.Error.{Error}
 use Rattle.liquid_error.specs.meaning.Told.{told}
 use Rattle.liquid_error.specs.meaning.Helpers.{ErrBecomes}

@@ -46,7 +46,8 @@ LooseEqualityIsSymmetric = (l r : Tree) → without_truthy l ≡ true → withou
 -- loose equality is not transitive: the empty text and the state `Empty` are equal, that state and the empty array are
 -- equal, and the empty text and the empty array are not
 abbrev pub LooseEqualityIsNotTransitive : Type 0
-LooseEqualityIsNotTransitive = (value_eq (scalar (text [])) (state Empty) ≡ true) × (value_eq (state Empty) (array no_items) ≡ true) × (value_eq (scalar (text [])) (array no_items) ≡ false)
+LooseEqualityIsNotTransitive = (value_eq (scalar (text [])) (state Empty) ≡ true) × (value_eq (state Empty) (array no_items) ≡ true)
+    × (value_eq (scalar (text [])) (array no_items) ≡ false)
 
 -- swapping two values reverses their order, or leaves them without one
 abbrev pub OrderSwappedIsReversed : Type 0
@@ -82,4 +83,5 @@ objects_equal_by_name ls rs = (member_count ls == member_count rs) && each_is_in
 
 -- loose equality of objects is decided by their names
 abbrev pub LooseEqualityOfObjectsGoesByName : Type 0
-LooseEqualityOfObjectsGoesByName = (ls rs : Members) → in_name_order ls ≡ true → in_name_order rs ≡ true → value_eq (object ls) (object rs) ≡ objects_equal_by_name ls rs
+LooseEqualityOfObjectsGoesByName = (ls rs : Members) → in_name_order ls ≡ true → in_name_order rs ≡ true
+    → value_eq (object ls) (object rs) ≡ objects_equal_by_name ls rs

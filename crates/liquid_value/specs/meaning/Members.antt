@@ -12,7 +12,8 @@ get_member name (member k t ms) = match_ordering (slice_cmp nat_cmp name k) (get
 -- the members with a tree at a name, in byte order of the names
 abbrev pub put_member : List ℕ → Tree → Members → Members
 put_member name t no_members = member name t no_members
-put_member name t (member k u ms) = match_ordering (slice_cmp nat_cmp name k) (member name t (member k u ms)) (member k t ms) (member k u (put_member name t ms))
+put_member name t (member k u ms) = match_ordering (slice_cmp nat_cmp name k) (member name t (member k u ms)) (member k t ms)
+    (member k u (put_member name t ms))
 
 -- how many members there are
 abbrev pub member_count : Members → ℕ

@@ -18,4 +18,5 @@ array_row = vec.the_row the_row global.the_row ghosts
 abbrev pub object_row : RattleType
 object_row =
     tree.the_row (text.the_row global.the_row ghosts) the_row global.the_row (ord.ghosts global.the_row ghosts ord.no_dict ord.no_dict)
-    (eq.ghosts global.the_row ghosts eq.no_dict eq.no_dict) (partial_ord.ghosts global.the_row ghosts partial_ord.no_dict partial_ord.no_dict) ghosts
+    (eq.ghosts global.the_row ghosts eq.no_dict eq.no_dict)
+    (partial_ord.ghosts global.the_row ghosts partial_ord.no_dict partial_ord.no_dict) ghosts

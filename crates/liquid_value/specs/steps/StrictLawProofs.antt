@@ -124,7 +124,8 @@ mutual
   items_congr (item l ls) no_items others same = cc
   items_congr (item l ls) (item r rs) no_items same = refl
   items_congr (item l ls) (item r rs) (item t ts) same =
-      ap (λ b. b && same_items ls ts) (same_congr l r t (first_true _ _ same)) ∙ ap (λ b. same_value r t && b) (items_congr ls rs ts (second_true _ _ same))
+      ap (λ b. b && same_items ls ts) (same_congr l r t (first_true _ _ same)) ∙ ap (λ b. same_value r t && b)
+      (items_congr ls rs ts (second_true _ _ same))
 
   members_congr : (ls rs others : Members) → same_members ls rs ≡ true → same_members ls others ≡ same_members rs others
   members_congr no_members no_members others same = refl
@@ -174,7 +175,8 @@ mutual
   items_agree no_items (item r rs) same = cc
   items_agree (item l ls) no_items same = cc
   items_agree (item l ls) (item r rs) same =
-      ap (λ h. h ++ items_hash ls) (hash_agrees l r (first_true _ _ same)) ∙ ap (λ h. value_hash r ++ h) (items_agree ls rs (second_true _ _ same))
+      ap (λ h. h ++ items_hash ls) (hash_agrees l r (first_true _ _ same)) ∙ ap (λ h. value_hash r ++ h)
+      (items_agree ls rs (second_true _ _ same))
 
   members_agree : (ls rs : Members) → same_members ls rs ≡ true → members_hash ls ≡ members_hash rs
   members_agree no_members no_members same = refl

@@ -1,5 +1,29 @@
 -- A call of a filter: its kind and its arguments, which are evaluated from left to right, the positional ones first.
-use Rattle.std.specs.Prelude.{ℕ, suc, Bool, true, false, not, List, [], ◌∷◌, ◌&&◌, nat_eq, nat_le, length, map, cond, Option, None, Some, Result, Ok, Err, String, string_bytes}
+use Rattle.std.specs.Prelude.{
+  ℕ,
+  suc,
+  Bool,
+  true,
+  false,
+  not,
+  List,
+  [],
+  ◌∷◌,
+  ◌&&◌,
+  nat_eq,
+  nat_le,
+  length,
+  map,
+  cond,
+  Option,
+  None,
+  Some,
+  Result,
+  Ok,
+  Err,
+  String,
+  string_bytes,
+}
 use Rattle.std.specs.Borrow.{Bor}
 use Rattle.std.specs.Cmp.Lexicographic.{pointwise}
 use Rattle.std.specs.List.{list_any}

@@ -23,7 +23,18 @@ use Rattle.std_loops.specs.meaning.Picked.{natural, picked}
 use Rattle.std_loops.specs.declared.tables.Stage.{Stage}
 use Rattle.std_loops.specs.declared.tables.Stage.TheVariants.{Text, Body, End}
 use Rattle.std_loops.specs.declared.tables.TableShape.{TableShape}
-use Rattle.std_loops.specs.meaning.Tables.{after_body, after_text, body_of, is_nil, is_over_nil, stage_takes, table, table_over, table_takes, text_at}
+use Rattle.std_loops.specs.meaning.Tables.{
+  after_body,
+  after_text,
+  body_of,
+  is_nil,
+  is_over_nil,
+  stage_takes,
+  table,
+  table_over,
+  table_takes,
+  text_at,
+}
 
 then_same : {A B : Type 0} (r : Result A Refusal) (f g : A → Result B Refusal) → ((x : A) → f x ≡ g x) → ok_then r f ≡ ok_then r g
 then_same (Ok x) f g e = e x

@@ -1,5 +1,27 @@
 -- Tables: what each goes over, and its turns, which are texts and the bodies of the items.
-use Rattle.std.specs.Prelude.{ℕ, ◌+◌, pos, List, drop, length, slice_get, codes, Bool, true, false, not, ◌&&◌, cond, nat_lt, Option, None, Some, unwrap_or, Result, Ok}
+use Rattle.std.specs.Prelude.{
+  ℕ,
+  ◌+◌,
+  pos,
+  List,
+  drop,
+  length,
+  slice_get,
+  codes,
+  Bool,
+  true,
+  false,
+  not,
+  ◌&&◌,
+  cond,
+  nat_lt,
+  Option,
+  None,
+  Some,
+  unwrap_or,
+  Result,
+  Ok,
+}
 use Rattle.std.specs.FinMap.{empty, insert}
 use Rattle.liquid_error.specs.meaning.Refusal.{Refusal, ok_then}
 use Rattle.liquid_value.specs.meaning.Tree.{Tree, nil}

@@ -1,7 +1,19 @@
 -- The image of a template of `liquid_tags` in the standard language.
 use Rattle.std.specs.Prelude.{map, Result, Ok, Err}
 use Rattle.liquid_error.specs.meaning.Refusal.{Refusal}
-use Rattle.liquid_plugins.specs.meaning.Nodes.{NodeShape, text_node, chain_node, tag_node, block_node, Nodes, no_nodes, node, Parts, no_parts, part}
+use Rattle.liquid_plugins.specs.meaning.Nodes.{
+  NodeShape,
+  text_node,
+  chain_node,
+  tag_node,
+  block_node,
+  Nodes,
+  no_nodes,
+  node,
+  Parts,
+  no_parts,
+  part,
+}
 use Rattle.liquid_tags.specs.declared.blocks.BlockShape.{BlockShape}
 use Rattle.liquid_tags.specs.declared.blocks.BlockShape.TheVariants as library
 use Rattle.liquid_tags.specs.declared.if_block.condition.ConditionShape.{ConditionShape}

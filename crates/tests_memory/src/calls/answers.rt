@@ -96,7 +96,8 @@ fn joined(alloc: Global, names: &BTreeSet<String>) -> Result<String, AllocError>
     Ok(all)
 }
 
-fn registered(alloc: Global, registry: &PluginRegistry<Filters>) -> Result<String, AllocError> {
+/// Returns the names of a registry, each with a blank after it.
+pub fn registered(alloc: Global, registry: &PluginRegistry<Filters>) -> Result<String, AllocError> {
     let mut all = String::new(alloc);
     for name in registry.plugin_names() {
         all.push_str(name)?;

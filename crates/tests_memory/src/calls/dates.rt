@@ -4,15 +4,6 @@ use crate::calls::given::Given;
 use liquid_core::model::DateTime;
 use std::alloc::Global;
 
-/// Returns the result of each call of dates.
-pub fn wanted(word: &str) -> &'static str {
-    match word {
-        "format" => "2016-047, Tuesday",
-        "rfc_2822" => "Tue, 16 Feb 2016 00:00:00 +0000",
-        _ => "",
-    }
-}
-
 /// Makes a call of dates.
 pub fn call<'g>(alloc: Global, word: &str, given: &'g mut Given) -> Answered<'g> {
     match word {

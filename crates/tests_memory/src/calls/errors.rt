@@ -7,25 +7,13 @@ use liquid_core::error::{
 };
 use std::alloc::Global;
 
-/// Returns the result of each call of errors.
-pub fn wanted(word: &str) -> &'static str {
-    match word {
-        "with_msg" => "liquid: m\n",
-        "with_text" => "liquid: n\n",
-        "at_place" => "liquid: m (line 1, column 2)\n",
-        "trace" | "trace_result" => "liquid: a\nfrom: t\n",
-        "context" | "key" | "made_key" => "liquid: a\n  with:\n    k=v\n",
-        "cause" | "or_place" | "clone" | "clone_report" | "clone_cause" => "liquid: a\n",
-        "clone_kept" | "kept" => "liquid: a\n\n",
-        "chain" | "lossy_chain" | "replace" => "liquid: b\n",
-        _ => "",
-    }
-}
-
 fn cloned_report<'g>(error: Error) -> Answered<'g> {
     match error {
-        Error::Liquid(report, _) => {
-            Ok(Answer::Refused(Error::Liquid(Report::clone(&report)?, None)))
+        Error::Liquid(report, cause) => {
+            let copy = Report::clone(&report);
+            drop(report);
+            drop(cause);
+            Ok(Answer::Refused(Error::Liquid(copy?, None)))
         }
         Error::Memory => Ok(Answer::Memory),
     }
@@ -63,18 +51,23 @@ fn of_new<'g>(alloc: Global, word: &str, given: &'g mut Given) -> Answered<'g> {
     }
 }
 
+/// Returns the error that a call takes.
+fn error(given: &mut Given) -> Error {
+    std::mem::replace(&mut given.error, Error::Memory)
+}
+
+/// Makes an error the cause of another.
+fn caused<'g>(alloc: Global, given: &'g mut Given) -> Answered<'g> {
+    let none = Cause::Error(Box::new(alloc, Error::Memory)?);
+    let cause = std::mem::replace(&mut given.cause, none);
+    Ok(Answer::from(Error::cause(error(given), cause)))
+}
+
 /// Makes the calls that add to an error.
-fn of_changes<'g>(alloc: Global, word: &str, given: &'g mut Given, error: Error) -> Answered<'g> {
+fn of_changes<'g>(alloc: Global, word: &str, error: Error) -> Answered<'g> {
     match word {
         "trace" => Ok(Answer::from(Error::trace(error, alloc, "t"))),
         "context" => Ok(Answer::from(Error::context(error, alloc, "k", "v"))),
-        "cause" => {
-            let cause = std::mem::replace(
-                &mut given.cause,
-                Cause::Error(Box::new(alloc, Error::Memory)?),
-            );
-            Ok(Answer::from(Error::cause(error, cause)))
-        }
         _ => {
             let place = Place { line: 1, column: 2 };
             Ok(Answer::from(Error::or_place(error, place)))
@@ -83,9 +76,9 @@ fn of_changes<'g>(alloc: Global, word: &str, given: &'g mut Given, error: Error)
 }
 
 /// Makes the calls that copy an error, a cause or an error that is kept.
-fn of_copies<'g>(word: &str, given: &'g Given, error: &Error) -> Answered<'g> {
+fn of_copies<'g>(word: &str, given: &'g Given) -> Answered<'g> {
     match word {
-        "clone" => Ok(Answer::from(Error::clone(error)?)),
+        "clone" => Ok(Answer::from(Error::clone(&given.error)?)),
         "clone_cause" => Ok(Answer::Cause(Cause::clone(&given.cause)?)),
         _ => Ok(Answer::Kept(CloneableError::clone(&given.kept)?)),
     }
@@ -101,12 +94,12 @@ fn of_wholes<'g>(alloc: Global, word: &str, error: Error) -> Answered<'g> {
 
 /// Makes a call of errors.
 pub fn call<'g>(alloc: Global, word: &str, given: &'g mut Given) -> Answered<'g> {
-    let error = std::mem::replace(&mut given.error, Error::Memory);
     match word {
         "with_msg" | "with_text" | "at_place" => of_new(alloc, word, given),
-        "trace" | "context" | "cause" | "or_place" => of_changes(alloc, word, given, error),
-        "clone" | "clone_cause" | "clone_kept" => of_copies(word, given, &error),
-        "clone_report" | "kept" => of_wholes(alloc, word, error),
-        _ => of_results(alloc, word, error),
+        "clone" | "clone_cause" | "clone_kept" => of_copies(word, given),
+        "cause" => caused(alloc, given),
+        "trace" | "context" | "or_place" => of_changes(alloc, word, error(given)),
+        "clone_report" | "kept" => of_wholes(alloc, word, error(given)),
+        _ => of_results(alloc, word, error(given)),
     }
 }

@@ -1,5 +1,7 @@
 //! What the calls are made with.
-use crate::problem::Problem;
+use crate::built::{Built, built};
+use crate::calls::answers::registered;
+use crate::problem::{Problem, both};
 use bench::filters::AnyFilter;
 use bench::languages::language;
 use bench::{Blocks, Filters, Tags};
@@ -7,11 +9,9 @@ use liquid_core::Error;
 use liquid_core::error::{Cause, CauseOf, CloneableError};
 use liquid_core::model::{DateTime, Object, Path, ScalarCow, Value, ValueSource, to_object};
 use liquid_core::parser::{FilterArguments, FilterChain, Language, ParseFilter, parse_variable};
-use liquid_core::runtime::{BuiltRuntime, Expression, Runtime, RuntimeBuilder, Variable};
+use liquid_core::runtime::{Expression, Runtime, Variable};
 use serde_json::Value as Json;
 use std::alloc::Global;
-
-pub type Built = BuiltRuntime<(), ()>;
 
 /// What all calls are made with. Calls that take a whole value take the error, the text and the member.
 #[derive(Drop)]
@@ -45,12 +45,14 @@ pub fn text(alloc: Global, text: &str) -> Result<String, Problem> {
 }
 
 pub fn object(alloc: Global) -> Result<Object, Problem> {
-    Ok(to_object(alloc, &Json::from_str(alloc, GLOBALS)?)?)
+    let json = json(alloc, GLOBALS)?;
+    let object = to_object(alloc, &json);
+    drop(json);
+    Ok(object?)
 }
 
 pub fn runtime(alloc: Global) -> Result<Built, Problem> {
-    let globals = object(alloc)?;
-    Ok(RuntimeBuilder::new(alloc).set_globals(globals).build())
+    Ok(built(alloc, object(alloc)?))
 }
 
 fn error(alloc: Global) -> Result<Error, Problem> {
@@ -60,18 +62,35 @@ fn error(alloc: Global) -> Result<Error, Problem> {
     }
 }
 
-/// Returns a chain of a name and a filter with an argument.
-fn chain(alloc: Global) -> Result<FilterChain<AnyFilter>, Problem> {
-    let mut positional = Vec::new(alloc);
-    positional.push(Expression::with_literal(text(alloc, "!")?))?;
+/// Returns a list of one item.
+fn list<T: Drop>(alloc: Global, item: T) -> Result<Vec<T>, Problem> {
+    let mut items = Vec::new(alloc);
+    items.push(item)?;
+    Ok(items)
+}
+
+/// Returns a filter with an argument.
+fn filter(alloc: Global) -> Result<AnyFilter, Problem> {
+    let argument = Expression::with_literal(text(alloc, "!")?);
     let arguments = FilterArguments {
-        positional,
+        positional: list(alloc, argument)?,
         keyword: Vec::new(alloc),
     };
-    let mut filters = Vec::new(alloc);
-    filters.push(Filters::Append.parse(alloc, arguments)?)?;
-    let entry = Expression::Variable(parse_variable(alloc, "a.b")?);
-    Ok(FilterChain::new(entry, filters))
+    Ok(Filters::Append.parse(alloc, arguments)?)
+}
+
+fn filters(alloc: Global) -> Result<Vec<AnyFilter>, Problem> {
+    list(alloc, filter(alloc)?)
+}
+
+fn variable(alloc: Global, text: &str) -> Result<Variable, Problem> {
+    Ok(parse_variable(alloc, text)?)
+}
+
+/// Returns a chain of a name and a filter with an argument.
+fn chain(alloc: Global) -> Result<FilterChain<AnyFilter>, Problem> {
+    let (filters, entry) = both(filters(alloc), variable(alloc, "a.b"))?;
+    Ok(FilterChain::new(Expression::Variable(entry), filters))
 }
 
 fn pairs(alloc: Global) -> Result<Vec<(String, Value)>, Problem> {
@@ -108,102 +127,118 @@ fn expressions(alloc: Global) -> Result<Vec<Expression>, Problem> {
 
 /// Returns an error, a cause and an error that is kept.
 fn errors(alloc: Global) -> Result<(Error, Cause, CloneableError), Problem> {
-    let cause = CauseOf::Error(Box::new(alloc, error(alloc)?)?);
-    let kept = CloneableError::new(alloc, error(alloc)?)?;
-    Ok((error(alloc)?, cause, kept))
+    let causes = both(cause(alloc), kept(alloc));
+    let (error, (cause, kept)) = both(error(alloc), causes)?;
+    Ok((error, cause, kept))
+}
+
+fn cause(alloc: Global) -> Result<Cause, Problem> {
+    Ok(CauseOf::Error(Box::new(alloc, error(alloc)?)?))
+}
+
+fn kept(alloc: Global) -> Result<CloneableError, Problem> {
+    Ok(CloneableError::new(alloc, error(alloc)?)?)
+}
+
+fn json(alloc: Global, text: &str) -> Result<Json, Problem> {
+    Ok(Json::from_str(alloc, text)?)
 }
 
 /// Returns a list as a value.
 fn value(alloc: Global) -> Result<Value, Problem> {
-    let array = Json::from_str(alloc, r#"[1, "two", {"k": "v"}]"#)?;
-    Ok(liquid_core::to_value(alloc, &array)?)
+    let array = json(alloc, r#"[1, "two", {"k": "v"}]"#)?;
+    let value = liquid_core::to_value(alloc, &array);
+    drop(array);
+    Ok(value?)
 }
 
 /// Returns the globals as JSON and as an object, and a list.
 fn values(alloc: Global) -> Result<(Json, Object, Value), Problem> {
-    let json = Json::from_str(alloc, GLOBALS)?;
-    Ok((json, object(alloc)?, value(alloc)?))
+    let parts = both(json(alloc, GLOBALS), object(alloc));
+    let ((json, object), value) = both(parts, value(alloc))?;
+    Ok((json, object, value))
 }
 
 fn path(alloc: Global) -> Result<Path<'static>, Problem> {
     let mut path = Path::with_index(alloc, "a")?;
-    path.push("b")?;
-    Ok(path)
+    match path.push("b") {
+        Ok(()) => Ok(path),
+        Err(error) => {
+            drop(path);
+            Err(Problem::from(error))
+        }
+    }
 }
 
 /// Returns a variable, by itself and as an expression.
 fn variables(alloc: Global) -> Result<(Variable, Expression), Problem> {
-    let variable = parse_variable(alloc, "a[i]")?;
-    let expression = Expression::Variable(parse_variable(alloc, "a[i]")?);
-    Ok((variable, expression))
+    let (one, other) = both(variable(alloc, "a[i]"), variable(alloc, "a[i]"))?;
+    Ok((one, Expression::Variable(other)))
+}
+
+fn member(alloc: Global) -> Result<Value, Problem> {
+    Ok(Value::scalar(text(alloc, "m")?))
 }
 
 /// Returns a name, a member and a date time.
 fn alone(alloc: Global) -> Result<(String, Value, DateTime), Problem> {
     let moment = DateTime::from_ymd(2016, 2, 16)?;
-    Ok((text(alloc, "n")?, Value::scalar(text(alloc, "m")?), moment))
-}
-
-/// Returns what calls put into an object and an array.
-fn members(alloc: Global) -> Result<(Vec<(String, Value)>, Vec<Value>), Problem> {
-    let pairs = pairs(alloc)?;
-    Ok((pairs, items(alloc)?))
-}
-
-/// Returns what calls put into a path and a variable.
-fn steps(alloc: Global) -> Result<(Vec<ScalarCow<'static>>, Vec<Expression>), Problem> {
-    let indexes = indexes(alloc)?;
-    Ok((indexes, expressions(alloc)?))
+    let (text, member) = both(text(alloc, "n"), member(alloc))?;
+    Ok((text, member, moment))
 }
 
 /// The parts that are data, by the functions that make them.
 type Data = (
     (Error, Cause, CloneableError),
-    (Json, Object, Value),
-    (String, Value, DateTime),
+    ((Json, Object, Value), (String, Value, DateTime)),
 );
 
 /// The parts that lead to data, and what calls put into them.
 type Ways = (
-    Path<'static>,
-    (Variable, Expression),
-    (Vec<(String, Value)>, Vec<Value>),
-    (Vec<ScalarCow<'static>>, Vec<Expression>),
+    (Path<'static>, (Variable, Expression)),
+    (
+        (Vec<(String, Value)>, Vec<Value>),
+        (Vec<ScalarCow<'static>>, Vec<Expression>),
+    ),
 );
 
 /// The parts that render.
 type Engine = (
     FilterChain<AnyFilter>,
-    Language<Filters, Tags, Blocks>,
-    Built,
+    (Language<Filters, Tags, Blocks>, Built),
 );
 
 fn data(alloc: Global) -> Result<Data, Problem> {
-    let errors = errors(alloc)?;
-    let values = values(alloc)?;
-    Ok((errors, values, alone(alloc)?))
+    let values = both(values(alloc), alone(alloc));
+    both(errors(alloc), values)
 }
 
 fn ways(alloc: Global) -> Result<Ways, Problem> {
-    let path = path(alloc)?;
-    let variables = variables(alloc)?;
-    let members = members(alloc)?;
-    Ok((path, variables, members, steps(alloc)?))
+    let members = both(pairs(alloc), items(alloc));
+    let steps = both(indexes(alloc), expressions(alloc));
+    let ways = both(path(alloc), variables(alloc));
+    let added = both(members, steps);
+    both(ways, added)
+}
+
+fn the_language(alloc: Global) -> Result<Language<Filters, Tags, Blocks>, Problem> {
+    Ok(language(alloc)?)
 }
 
 fn engine(alloc: Global) -> Result<Engine, Problem> {
-    let chain = chain(alloc)?;
-    let language = language(alloc)?;
-    Ok((chain, language, runtime(alloc)?))
+    let parts = both(the_language(alloc), runtime(alloc));
+    both(chain(alloc), parts)
 }
 
 impl Given {
-    /// Makes each part by its own function, and the parts in groups: a check costs more with each value that is held
-    /// where a call may fail.
+    /// Makes each part by its own function.
     pub fn new(alloc: Global) -> Result<Given, Problem> {
-        let ((error, cause, kept), (json, object, value), (text, member, moment)) = data(alloc)?;
-        let (path, (variable, expression), (pairs, items), (indexes, expressions)) = ways(alloc)?;
-        let (chain, language, runtime) = engine(alloc)?;
+        let parts = both(ways(alloc), engine(alloc));
+        let (data, (ways, engine)) = both(data(alloc), parts)?;
+        let ((error, cause, kept), ((json, object, value), (text, member, moment))) = data;
+        let ((path, (variable, expression)), steps) = ways;
+        let ((pairs, items), (indexes, expressions)) = steps;
+        let (chain, (language, runtime)) = engine;
         Ok(Given {
             error,
             cause,
@@ -230,10 +265,10 @@ impl Given {
     /// Makes again what calls take whole.
     pub fn refresh(&mut self, alloc: Global) -> Result<(), Problem> {
         self.error = error(alloc)?;
-        self.cause = CauseOf::Error(Box::new(alloc, error(alloc)?)?);
+        self.cause = cause(alloc)?;
         self.text = text(alloc, "n")?;
-        self.member = Value::scalar(text(alloc, "m")?);
-        self.json = Json::from_str(alloc, GLOBALS)?;
+        self.member = member(alloc)?;
+        self.json = json(alloc, GLOBALS)?;
         Ok(())
     }
 
@@ -243,7 +278,7 @@ impl Given {
         let variable = self.variable.to_string(alloc)?;
         let chain = self.chain.to_string(alloc)?;
         let value = ValueSource::new(&self.value).to_string(alloc)?;
-        let filters = filter_names(alloc, &self.language)?;
+        let filters = registered(alloc, &self.language.filters)?;
         let names = names_of(alloc, &self.object)?;
         let runtime = names_shown(alloc, &self.runtime)?;
         Ok(format!(in alloc; "{path}|{variable}|{chain}|{value}|{filters}|{names}|{runtime}")?)
@@ -251,25 +286,13 @@ impl Given {
 }
 
 /// Returns the text of what a call extends.
-pub fn extended(alloc: Global, given: &Given, group: &str, word: &str) -> Result<String, Problem> {
-    match (group, word) {
-        ("paths", "extend") => Ok(given.path.to_string(alloc)?),
-        ("plugins", "variable_extend") => Ok(given.variable.to_string(alloc)?),
-        ("values", "object_extend") => names_of(alloc, &given.object),
+pub fn extended(alloc: Global, given: &Given, word: &str) -> Result<String, Problem> {
+    match word {
+        "extend" => Ok(given.path.to_string(alloc)?),
+        "variable_extend" => Ok(given.variable.to_string(alloc)?),
+        "object_extend" => names_of(alloc, &given.object),
         _ => Ok(ValueSource::new(&given.value).to_string(alloc)?),
     }
-}
-
-fn filter_names(
-    alloc: Global,
-    language: &Language<Filters, Tags, Blocks>,
-) -> Result<String, Problem> {
-    let mut all = String::new(alloc);
-    for name in language.filters.plugin_names() {
-        all.push_str(name)?;
-        all.push_str(" ")?;
-    }
-    Ok(all)
 }
 
 /// Returns the names of an object, with the source of each value.

@@ -7,17 +7,6 @@ use liquid_core::model::{
 use serde_json::Value as Json;
 use std::alloc::Global;
 
-/// Returns the result of each call of JSON.
-pub fn wanted(word: &str) -> &'static str {
-    match word {
-        "to_value" | "to_object" | "into_value" | "into_object" | "object_from_str" =>
-            "{\"a\": b1two, \"i\": b, }",
-        "to_scalar" => "\"b\"",
-        "from_value" => "[1,\"two\",{\"k\":\"v\"}]",
-        _ => "",
-    }
-}
-
 /// Makes the calls that read JSON.
 fn of_reads<'g>(alloc: Global, word: &str, json: &Json) -> Answered<'g> {
     match word {
@@ -42,13 +31,17 @@ fn of_text<'g>(alloc: Global) -> Answered<'g> {
     }
 }
 
+/// Returns the JSON that a call takes.
+fn json(given: &mut Given) -> Json {
+    std::mem::replace(&mut given.json, Json::Null)
+}
+
 /// Makes a call of JSON.
 pub fn call<'g>(alloc: Global, word: &str, given: &'g mut Given) -> Answered<'g> {
-    let json = std::mem::replace(&mut given.json, Json::Null);
     match word {
-        "to_value" | "to_object" | "to_scalar" => of_reads(alloc, word, &json),
-        "into_value" => Ok(Answer::Value(into_value(alloc, json)?)),
-        "into_object" => Ok(Answer::Value(Value::from(into_object(alloc, json)?))),
+        "to_value" | "to_object" | "to_scalar" => of_reads(alloc, word, &given.json),
+        "into_value" => Ok(Answer::Value(into_value(alloc, json(given))?)),
+        "into_object" => Ok(Answer::Value(Value::from(into_object(alloc, json(given))?))),
         "object_from_str" => of_text(alloc),
         _ => Ok(Answer::Json(from_value(alloc, &given.value)?)),
     }

@@ -4,21 +4,6 @@ use crate::calls::given::Given;
 use liquid_core::model::{Path, ScalarCow, find, find_after, step, try_find};
 use std::alloc::Global;
 
-/// Returns the result of each call of paths.
-pub fn wanted(word: &str) -> &'static str {
-    match word {
-        "with_index" => "a",
-        "push" | "reserve" | "extend" => "done",
-        "clone" => "a.b",
-        "step" | "try_find" => "3",
-        "find" =>
-            "liquid: Unknown index\n  with:\n    variable=2\n    requested index=x\n    available indexes=k\n",
-        "find_after" =>
-            "liquid: Unknown index\n  with:\n    variable=l\n    requested index=x\n    available indexes=0..2, first, last\n",
-        _ => "",
-    }
-}
-
 /// Makes the calls that make a path, or add to it.
 fn of_paths<'g>(alloc: Global, word: &str, given: &'g mut Given) -> Answered<'g> {
     match word {

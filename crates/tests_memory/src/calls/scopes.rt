@@ -1,12 +1,11 @@
 //! Calls of scopes.
 ghost use Rattle.std.specs.Prelude.{◌≡◌};
 
-use crate::calls::given::{Built, object, runtime, text};
+use crate::calls::given::{object, runtime, text};
 use crate::growths::{MOST, Seen, Told, taken};
-use crate::problem::Problem;
-use bench::forms::{Chained, Flat};
+use crate::problem::{Problem, both};
 use liquid_core::model::{ScalarCow, Value};
-use liquid_core::runtime::{FlatScopes, Frame, Looks, Runtime, Scopes};
+use liquid_core::runtime::{ChainedScopes, FlatScopes, Frame, Looks, Runtime, Scopes};
 use liquid_core::{Error, ValueCow};
 use std::alloc::{AllocError, Global};
 use std::collections::BTreeSet;
@@ -22,12 +21,14 @@ fn told<T: Drop>(answer: Result<T, Error>, is_made: bool, stands: bool) -> Told 
 
 /// Returns a frame of names, of which `own` is one.
 fn frame(alloc: Global, is_isolated: bool) -> Result<Frame, Problem> {
-    let mut names = object(alloc)?;
-    names.insert(text(alloc, "own")?, Value::scalar(1i64))?;
-    if is_isolated {
-        Ok(Frame::Isolated(names, None))
-    } else {
-        Ok(Frame::Stack(names, None))
+    let (mut names, own) = both(object(alloc), text(alloc, "own"))?;
+    match names.insert(own, Value::scalar(1i64)) {
+        Ok(_) if is_isolated => Ok(Frame::Isolated(names, None)),
+        Ok(_) => Ok(Frame::Stack(names, None)),
+        Err(error) => {
+            drop(names);
+            Err(Problem::from(error))
+        }
     }
 }
 
@@ -54,13 +55,14 @@ where
     S: Scopes<Register = (), Store = ()>,
     S::Base: Drop,
 {
-    let (one, other) = (frame(alloc, is_isolated)?, frame(alloc, is_isolated)?);
+    let (one, other) = both(frame(alloc, is_isolated), frame(alloc, is_isolated))?;
     let mut scopes = S::new(alloc, base);
     let before = taken(alloc, boxes);
     let first = pushed(&mut scopes, one);
     let after = taken(alloc, MOST);
     let next = pushed(&mut scopes, other);
-    let _base = scopes.into_base();
+    let base = scopes.into_base();
+    drop(base);
     Ok(Seen {
         before,
         after,
@@ -88,13 +90,14 @@ where
     S: Scopes<Register = (), Store = ()>,
     S::Base: Drop,
 {
-    let (one, other) = (text(alloc, "n")?, text(alloc, "n")?);
+    let (one, other) = both(text(alloc, "n"), text(alloc, "n"))?;
     let mut scopes = S::new(alloc, base);
     let before = taken(alloc, boxes);
     let first = set(&mut scopes, word, one);
     let after = taken(alloc, MOST);
     let next = set(&mut scopes, word, other);
-    let _base = scopes.into_base();
+    let base = scopes.into_base();
+    drop(base);
     Ok(Seen {
         before,
         after,
@@ -107,7 +110,9 @@ where
 fn roots_told(roots: Result<BTreeSet<String>, AllocError>) -> Told {
     match roots {
         Ok(names) => {
-            Told::Whole.only_if(names.len() == 2 && names.contains("a") && names.contains("i"))
+            let is_whole = names.len() == 2 && names.contains("a") && names.contains("i");
+            drop(names);
+            Told::Whole.only_if(is_whole)
         }
         Err(_) => Told::Memory,
     }
@@ -125,7 +130,8 @@ where
     let after = taken(alloc, MOST);
     let first = roots_told(answer);
     let next = roots_told(scopes.roots(alloc));
-    let _base = scopes.into_base();
+    let base = scopes.into_base();
+    drop(base);
     Ok(Seen {
         before,
         after,
@@ -137,24 +143,34 @@ where
 /// Classifies the size of the only member of `a`.
 fn size_told(found: Result<Option<ValueCow<'_>>, AllocError>) -> Told {
     match found {
-        Ok(Some(value)) => Told::Whole.only_if(*value.as_view() == Value::scalar(1i64)),
+        Ok(Some(value)) => {
+            let one = Value::scalar(1i64);
+            let is_one = *value.as_view() == one;
+            drop(one);
+            drop(value);
+            Told::Whole.only_if(is_one)
+        }
         Ok(None) => Told::Other,
         Err(_) => Told::Memory,
     }
 }
 
 /// Looks up a path in flat scopes after that many boxes, and then once more.
-fn seek(alloc: Global, base: Built, boxes: usize) -> Result<Seen, Problem> {
+fn seek<R>(alloc: Global, base: R, boxes: usize) -> Result<Seen, Problem>
+where
+    R: Runtime<Register = (), Store = ()> + Drop,
+{
     let path = [ScalarCow::from("a"), ScalarCow::from("size")];
     let mut looks = Looks::new();
-    let scopes: Flat<()> = FlatScopes::new(alloc, base);
+    let scopes: FlatScopes<R> = FlatScopes::new(alloc, base);
     let before = taken(alloc, boxes);
     let found = scopes.seek(alloc, &path, &mut looks);
     let after = taken(alloc, MOST);
     let first = size_told(found);
     let mut looks = Looks::new();
     let next = size_told(scopes.seek(alloc, &path, &mut looks));
-    let _base = scopes.into_base();
+    let base = scopes.into_base();
+    drop(base);
     Ok(Seen {
         before,
         after,
@@ -179,21 +195,20 @@ where
     }
 }
 
-/// Makes a call of flat scopes after that many boxes, and then once more.
-fn flat(alloc: Global, base: Built, call: &str, boxes: usize) -> Result<Seen, Problem> {
-    match call {
-        "seek" => seek(alloc, base, boxes),
-        _ => of_form::<Flat<()>>(alloc, base, call, boxes),
+/// Makes a call of scopes over a runtime after that many boxes, and then once more.
+fn over<R>(alloc: Global, base: R, word: &str, boxes: usize) -> Result<Seen, Problem>
+where
+    R: Runtime<Register = (), Store = ()> + Drop,
+{
+    match word.split_once("_") {
+        Some(("chained", call)) => of_form::<ChainedScopes<R>>(alloc, base, call, boxes),
+        Some(("flat", "seek")) => seek(alloc, base, boxes),
+        Some(("flat", call)) => of_form::<FlatScopes<R>>(alloc, base, call, boxes),
+        _ => Err(Problem::Case),
     }
 }
 
-/// Makes a call of scopes after that many boxes, and then once more. Each form is named in one call, since a check of
-/// tests costs with each call that names it.
+/// Makes a call of scopes after that many boxes, and then once more.
 pub fn tried(alloc: Global, word: &str, boxes: usize) -> Result<Seen, Problem> {
-    let base = runtime(alloc)?;
-    match word.split_once("_") {
-        Some(("chained", call)) => of_form::<Chained<()>>(alloc, base, call, boxes),
-        Some(("flat", call)) => flat(alloc, base, call, boxes),
-        _ => Err(Problem::Case),
-    }
+    over(alloc, runtime(alloc)?, word, boxes)
 }

@@ -1,42 +1,37 @@
 //! Trials of the calls of a group.
 use crate::calls::answers::{Answer, shown};
 use crate::calls::given::{Given, extended};
+use crate::calls::wanted::wanted;
 use crate::calls::{dates, errors, filters, json_calls, paths, plugins, runtimes, scopes, values};
-use crate::growths::{MOST, Seen, Told, taken};
+use crate::growths::{MOST, Run, Seen, Told, taken};
 use crate::problem::Problem;
 use std::alloc::Global;
 
-/// Returns the result of a call with ample memory, or an empty text if there is no such call.
-fn wanted(group: &str, word: &str) -> &'static str {
-    match group {
-        "dates" => dates::wanted(word),
-        "errors" => errors::wanted(word),
-        "json" => json_calls::wanted(word),
-        "paths" => paths::wanted(word),
-        "plugins" => plugins::wanted(word),
-        "runtimes" => runtimes::wanted(word),
-        "values" => values::wanted(word),
-        _ => "",
-    }
+/// A call of a group, and the text of its result with ample memory.
+#[derive(Clone, Copy)]
+struct Call<'a> {
+    group: &'a str,
+    word: &'a str,
+    wanted: &'a str,
 }
 
 /// Returns what an `extend` may leave: each of its items, in order, up to one of them.
-fn beginnings(group: &str, word: &str) -> &'static [&'static str] {
-    match (group, word) {
-        ("paths", "extend") => &["a.b", "a.b.c", "a.b.c.d", "a.b.c.d.e", "a.b.c.d.e.f"],
-        ("plugins", "variable_extend") => &[
+fn beginnings(word: &str) -> &'static [&'static str] {
+    match word {
+        "extend" => &["a.b", "a.b.c", "a.b.c.d", "a.b.c.d.e", "a.b.c.d.e.f"],
+        "variable_extend" => &[
             "a[i]",
             "a[i][1]",
             "a[i][1][2]",
             "a[i][1][2][3]",
             "a[i][1][2][3][4]",
         ],
-        ("values", "object_extend") => &[
+        "object_extend" => &[
             OBJECT,
             "a{\"b\": 1two, }i\"b\"x1",
             "a{\"b\": 1two, }i\"b\"x1y1",
         ],
-        ("values", "array_extend") => &[
+        "array_extend" => &[
             "[1, two, kv, ]",
             "[1, two, kv, 5, ]",
             "[1, two, kv, 5, 6, ]",
@@ -53,8 +48,9 @@ fn beginnings(group: &str, word: &str) -> &'static [&'static str] {
 const OBJECT: &str = "a{\"b\": 1two, }i\"b\"";
 
 /// Makes the call. Its result may be on either side of a Result.
-fn answer<'g>(alloc: Global, group: &str, word: &str, given: &'g mut Given) -> Answer<'g> {
-    let answered = match group {
+fn answer<'g>(alloc: Global, call: Call<'_>, given: &'g mut Given) -> Answer<'g> {
+    let word = call.word;
+    let answered = match call.group {
         "dates" => dates::call(alloc, word, given),
         "errors" => errors::call(alloc, word, given),
         "json" => json_calls::call(alloc, word, given),
@@ -70,7 +66,9 @@ fn answer<'g>(alloc: Global, group: &str, word: &str, given: &'g mut Given) -> A
 
 /// Compares a result's text with the one that is wanted.
 fn told(alloc: Global, answer: Answer<'_>, wanted: &str) -> Result<Told, Problem> {
-    match shown(alloc, &answer)? {
+    let shown = shown(alloc, &answer);
+    drop(answer);
+    match shown? {
         None => Ok(Told::Memory),
         Some(text) => Ok(Told::Whole.only_if(text.as_str() == wanted)),
     }
@@ -85,6 +83,68 @@ fn is_among(text: &str, texts: &[&str]) -> bool {
     is_there
 }
 
+/// Returns `true` if what the call may change is as before, or what it extends is one of the beginnings.
+fn stands(alloc: Global, call: Call<'_>, given: &Given, as_before: &str) -> Result<bool, Problem> {
+    let parts = beginnings(call.word);
+    if parts.is_empty() {
+        Ok(given.shown(alloc)?.as_str() == as_before)
+    } else {
+        Ok(is_among(extended(alloc, given, call.word)?.as_str(), parts))
+    }
+}
+
+/// Makes the call after that many boxes.
+fn run(
+    alloc: Global,
+    call: Call<'_>,
+    given: &mut Given,
+    as_before: &str,
+    boxes: usize,
+) -> Result<Run, Problem> {
+    let before = taken(alloc, boxes);
+    let answered = answer(alloc, call, given);
+    let after = taken(alloc, MOST);
+    let told = told(alloc, answered, call.wanted)?;
+    let stands = stands(alloc, call, given, as_before)?;
+    Ok(Run {
+        before,
+        after,
+        told: told.only_if(told != Told::Memory || stands),
+    })
+}
+
+/// Makes the call once more.
+fn run_again(alloc: Global, call: Call<'_>, given: &mut Given) -> Result<Run, Problem> {
+    let answered = answer(alloc, call, given);
+    Ok(Run {
+        before: None,
+        after: None,
+        told: told(alloc, answered, call.wanted)?,
+    })
+}
+
+/// Makes the call once more, with what it took whole if it was out of memory, and else with all that it is given.
+fn run_next(alloc: Global, call: Call<'_>, given: &mut Given, first: Told) -> Result<Run, Problem> {
+    if first == Told::Memory && beginnings(call.word).is_empty() {
+        given.refresh(alloc)?;
+        return run_again(alloc, call, given);
+    }
+    let mut other = Given::new(alloc)?;
+    let run = run_again(alloc, call, &mut other);
+    drop(other);
+    run
+}
+
+/// Makes the call with what it is given after that many boxes, and then once more.
+fn seen(alloc: Global, call: Call<'_>, given: &mut Given, boxes: usize) -> Result<Seen, Problem> {
+    let as_before = given.shown(alloc)?;
+    let first = run(alloc, call, given, as_before.as_str(), boxes);
+    drop(as_before);
+    let first = first?;
+    let next = run_next(alloc, call, given, first.told);
+    Seen::of(Ok(first), next)
+}
+
 /// Makes the call of a group after that many boxes, and then once more.
 pub fn tried(alloc: Global, group: &str, word: &str, boxes: usize) -> Result<Seen, Problem> {
     if group == "scopes" {
@@ -97,31 +157,13 @@ pub fn tried(alloc: Global, group: &str, word: &str, boxes: usize) -> Result<See
     if wanted.is_empty() {
         return Err(Problem::Case);
     }
+    let call = Call {
+        group,
+        word,
+        wanted,
+    };
     let mut given = Given::new(alloc)?;
-    let as_before = given.shown(alloc)?;
-    let before = taken(alloc, boxes);
-    let answered = answer(alloc, group, word, &mut given);
-    let after = taken(alloc, MOST);
-    let first = told(alloc, answered, wanted)?;
-    let part = extended(alloc, &given, group, word)?;
-    let parts = beginnings(group, word);
-    let stands = if parts.is_empty() {
-        given.shown(alloc)?.as_str() == as_before.as_str()
-    } else {
-        is_among(part.as_str(), parts)
-    };
-    let mut other = if first == Told::Memory && parts.is_empty() {
-        given.refresh(alloc)?;
-        given
-    } else {
-        Given::new(alloc)?
-    };
-    let answered = answer(alloc, group, word, &mut other);
-    let next = told(alloc, answered, wanted)?;
-    Ok(Seen {
-        before,
-        after,
-        first: first.only_if(first != Told::Memory || stands),
-        next,
-    })
+    let seen = seen(alloc, call, &mut given, boxes);
+    drop(given);
+    seen
 }

@@ -3,25 +3,7 @@ use crate::calls::answers::{Answer, Answered};
 use crate::calls::given::Given;
 use liquid_core::model::{Object, Scalar, ScalarCow, Value, ValueCow, array_of, object_of};
 use liquid_core::{ObjectView, ValueView};
-use std::alloc::Global;
-
-/// Returns the result of each call of values.
-pub fn wanted(word: &str) -> &'static str {
-    match word {
-        "clone" | "into_owned" | "to_value" | "shared_array_push" => "[1, two, kv, ]",
-        "cow_clone" | "scalar_clone" => "\"m\"",
-        "array" => "[5, 6, 7, 8, 9, 10, 11, ]",
-        "to_kstr" => "1twokv",
-        "scalar_into_owned" => "\"seven\"",
-        "scalar_to_kstr" | "into_string" | "into_cow_str" => "7",
-        "insert" | "object_extend" | "array_push" | "array_extend" => "done",
-        "array_of" => "[a, b, ]",
-        "object_of" => "{\"k\": 1, }",
-        "lookup" | "shared_object_insert" => "{\"b\": 1two, }",
-        "keys" => "a i",
-        _ => "",
-    }
-}
+use std::alloc::{AllocError, Global};
 
 /// Copies a scalar.
 fn of_scalar<'g>(member: &Value) -> Answered<'g> {
@@ -60,10 +42,21 @@ fn of_scalars<'g>(alloc: Global, word: &str, member: &Value) -> Answered<'g> {
     }
 }
 
+/// Returns the name that a call takes.
+fn name(alloc: Global, given: &mut Given) -> String {
+    std::mem::replace(&mut given.text, String::new(alloc))
+}
+
+/// Returns the member that a call takes.
+fn member(given: &mut Given) -> Value {
+    std::mem::replace(&mut given.member, Value::Nil)
+}
+
 /// Puts a member into an object.
-fn inserted<'g>(alloc: Global, given: &'g mut Given, member: Value) -> Answered<'g> {
-    let name = std::mem::replace(&mut given.text, String::new(alloc));
-    let _old = Object::insert(&mut given.object, name, member)?;
+fn inserted<'g>(alloc: Global, given: &'g mut Given) -> Answered<'g> {
+    let (name, member) = (name(alloc, given), member(given));
+    let old = Object::insert(&mut given.object, name, member)?;
+    drop(old);
     Ok(Answer::Done)
 }
 
@@ -74,49 +67,115 @@ fn extended<'g>(alloc: Global, given: &'g mut Given) -> Answered<'g> {
     Ok(Answer::Done)
 }
 
-/// Puts an item after the items of an array.
-fn pushed<'g>(given: &'g mut Given, member: Value) -> Answered<'g> {
-    match given.value.as_array_mut() {
-        Some(array) => {
-            array.to_mut()?.push(member)?;
-            Ok(Answer::Done)
+/// Puts an item after the items of a value. Returns `false` if the value is not an array.
+fn push(value: &mut Value, item: Value) -> Result<bool, AllocError> {
+    let Some(array) = value.as_array_mut() else {
+        drop(item);
+        return Ok(false);
+    };
+    match array.to_mut() {
+        Ok(items) => {
+            items.push(item)?;
+            Ok(true)
         }
-        None => Ok(Answer::Nothing),
+        Err(error) => {
+            drop(item);
+            Err(error)
+        }
+    }
+}
+
+/// Puts an item after the items of an array.
+fn pushed<'g>(given: &'g mut Given) -> Answered<'g> {
+    let member = member(given);
+    if push(&mut given.value, member)? {
+        Ok(Answer::Done)
+    } else {
+        Ok(Answer::Nothing)
     }
 }
 
 /// Puts items after those of an array.
 fn lengthened<'g>(alloc: Global, given: &'g mut Given) -> Answered<'g> {
     let items = std::mem::replace(&mut given.items, Vec::new(alloc));
-    match given.value.as_array_mut() {
-        Some(array) => {
-            array.to_mut()?.extend(items)?;
+    let Some(array) = given.value.as_array_mut() else {
+        drop(items);
+        return Ok(Answer::Nothing);
+    };
+    match array.to_mut() {
+        Ok(array) => {
+            array.extend(items)?;
             Ok(Answer::Done)
         }
-        None => Ok(Answer::Nothing),
+        Err(error) => {
+            drop(items);
+            Ok(Answer::from(error))
+        }
     }
 }
 
 /// Writes to an array that another value shares, and returns the other value.
-fn of_shared_arrays<'g>(given: &'g mut Given, member: Value) -> Answered<'g> {
+fn of_shared_arrays<'g>(given: &'g mut Given) -> Answered<'g> {
     let other = Value::clone(&given.value)?;
-    if let Some(array) = given.value.as_array_mut() {
-        array.to_mut()?.push(member)?;
+    let member = member(given);
+    match push(&mut given.value, member) {
+        Ok(_) => Ok(Answer::Value(other)),
+        Err(error) => {
+            drop(other);
+            Ok(Answer::from(error))
+        }
     }
-    Ok(Answer::Value(other))
+}
+
+/// Puts a member into an object that is a value.
+fn insert(value: &mut Value, name: String, member: Value) -> Result<(), AllocError> {
+    let Some(object) = value.as_object_mut() else {
+        drop(name);
+        drop(member);
+        return Ok(());
+    };
+    match object.to_mut() {
+        Ok(object) => {
+            let old = object.insert(name, member)?;
+            drop(old);
+            Ok(())
+        }
+        Err(error) => {
+            drop(name);
+            drop(member);
+            Err(error)
+        }
+    }
 }
 
 /// Writes to an object that another value shares, and returns the other value.
-fn of_shared_objects<'g>(alloc: Global, given: &'g mut Given, member: Value) -> Answered<'g> {
-    let name = std::mem::replace(&mut given.text, String::new(alloc));
+fn of_shared_objects<'g>(alloc: Global, given: &'g mut Given) -> Answered<'g> {
+    let (name, member) = (name(alloc, given), member(given));
     let Some(value) = given.object.get_mut("a") else {
+        drop(name);
+        drop(member);
         return Ok(Answer::Nothing);
     };
-    let other = Value::clone(value)?;
-    if let Some(object) = value.as_object_mut() {
-        let _old = object.to_mut()?.insert(name, member)?;
+    written_alone(value, name, member)
+}
+
+/// Copies a value that is an object, puts a member into it, and returns the copy.
+fn written_alone<'g>(value: &mut Value, name: String, member: Value) -> Answered<'g> {
+    let other = match Value::clone(value) {
+        Ok(other) => other,
+        Err(error) => {
+            drop(name);
+            drop(member);
+            return Ok(Answer::from(error));
+        }
+    };
+    match insert(value, name, member) {
+        Ok(()) => Ok(Answer::Value(other)),
+        Err(error) => {
+            drop(other);
+            Ok(Answer::from(error))
+        }
     }
-    Ok(Answer::Value(other))
 }
 
 /// Makes the calls that search an object, or make one.
@@ -152,20 +211,35 @@ fn of_copies<'g>(alloc: Global, word: &str, given: &'g Given) -> Answered<'g> {
     }
 }
 
+/// Makes the calls that write to an array or an object.
+fn of_writes<'g>(alloc: Global, word: &str, given: &'g mut Given) -> Answered<'g> {
+    match word {
+        "insert" => inserted(alloc, given),
+        "object_extend" => extended(alloc, given),
+        "array_push" => pushed(given),
+        "array_extend" => lengthened(alloc, given),
+        "shared_array_push" => of_shared_arrays(given),
+        _ => of_shared_objects(alloc, given),
+    }
+}
+
+/// Copies the member, as a value that may be borrowed.
+fn copied<'g>(given: &'g mut Given) -> Answered<'g> {
+    let member = ValueCow::Owned(member(given));
+    let copy = ValueCow::clone(&member);
+    drop(member);
+    Ok(Answer::Found(copy?))
+}
+
 /// Makes a call of values.
 pub fn call<'g>(alloc: Global, word: &str, given: &'g mut Given) -> Answered<'g> {
-    let member = std::mem::replace(&mut given.member, Value::Nil);
     match word {
         "clone" | "into_owned" | "to_value" | "to_kstr" => of_copies(alloc, word, given),
         "array" | "array_of" => of_arrays(alloc, word, given),
         "object_of" | "lookup" | "keys" => of_objects(alloc, word, given),
-        "insert" => inserted(alloc, given, member),
-        "object_extend" => extended(alloc, given),
-        "array_push" => pushed(given, member),
-        "array_extend" => lengthened(alloc, given),
-        "shared_array_push" => of_shared_arrays(given, member),
-        "shared_object_insert" => of_shared_objects(alloc, given, member),
-        "cow_clone" => Ok(Answer::Found(ValueCow::clone(&ValueCow::Owned(member))?)),
-        _ => of_scalars(alloc, word, &member),
+        "cow_clone" => copied(given),
+        "scalar_clone" | "scalar_into_owned" | "scalar_to_kstr" | "into_string" | "into_cow_str" =>
+            { of_scalars(alloc, word, &given.member) }
+        _ => of_writes(alloc, word, given),
     }
 }

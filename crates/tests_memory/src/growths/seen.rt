@@ -1,4 +1,5 @@
 //! The outcome of a call in which one allocation may fail.
+use crate::problem::{Problem, both};
 use std::fmt;
 
 /// What one result of a call is.
@@ -28,8 +29,17 @@ impl Told {
     }
 }
 
-/// The results of a call, and where the one failure was: how many boxes were allocated before one failed, before the
-/// call and after it, or `None` if no box failed there.
+/// The result of one call, and how many boxes were allocated before one failed, before the call and after it, or `None`
+/// if no box failed there.
+#[derive(Drop)]
+pub struct Run {
+    pub before: Option<usize>,
+    pub after: Option<usize>,
+    pub told: Told,
+}
+
+/// The results of a call that is made twice, and where the one failure was: how many boxes were allocated before one
+/// failed, before the first call and after it, or `None` if no box failed there.
 #[derive(Drop)]
 pub struct Seen {
     pub before: Option<usize>,
@@ -39,6 +49,17 @@ pub struct Seen {
 }
 
 impl Seen {
+    /// Returns what two runs of a call came to, or the first problem.
+    pub fn of(first: Result<Run, Problem>, next: Result<Run, Problem>) -> Result<Seen, Problem> {
+        let (first, next) = both(first, next)?;
+        Ok(Seen {
+            before: first.before,
+            after: first.after,
+            first: first.told,
+            next: next.told,
+        })
+    }
+
     /// Returns `true` if the call returned what it may: out of memory only if an allocation in it failed, and otherwise
     /// the row's result, which the next call always returns.
     fn holds(&self) -> bool {

@@ -1,15 +1,16 @@
 //! Templates with blocks that capture their bodies.
 ghost use Rattle.std.specs.Prelude.{◌++◌, codes, Ok};
 
-use crate::growths::{MOST, Seen, Told, taken};
-use crate::problem::Problem;
+use crate::built::built;
+use crate::growths::Seen;
+use crate::problem::{Problem, both};
+use crate::rows::pages::{page, seen_over};
 use crate::rows::row::Row;
-use crate::rows::stores::told;
-use liquid_core::parser::{Language, NoPlugin, parse};
-use liquid_core::runtime::{BuiltRuntime, RuntimeBuilder, Template};
-use liquid_core::{Error, TextSink};
+use liquid_core::Error;
+use liquid_core::parser::{Language, NoPlugin, ParseBlock, ParseFilter, ParseTag};
+use liquid_core::runtime::Renderable;
 use std::alloc::Global;
-use text_blocks::{TextBlock, TextBlockNode, TextBlockPlugin};
+use text_blocks::{TextBlock, TextBlockPlugin};
 
 /// The block `twice`, which writes the text of its body twice.
 #[derive(Debug, Clone, Copy, Drop)]
@@ -40,47 +41,46 @@ impl TextBlock for Twice {
     }
 }
 
-type Captured = Template<NoPlugin, NoPlugin, TextBlockNode<Twice>>;
+type Capturing = Language<NoPlugin, NoPlugin, TextBlockPlugin<Twice>>;
 
-/// Returns the row's template, parsed in a language of this block alone.
-fn page(alloc: Global, row: &Row) -> Result<Captured, Problem> {
-    let mut language: Language<NoPlugin, NoPlugin, TextBlockPlugin<Twice>> = Language::empty(alloc);
+/// Returns a language of this block alone.
+fn language(alloc: Global) -> Result<Capturing, Problem> {
+    let mut language: Capturing = Language::empty(alloc);
     let plugin = TextBlockPlugin { kind: Twice };
-    language.blocks.register("twice", plugin)?;
-    match parse(alloc, row.template(), &language) {
-        Ok(nodes) => Ok(Template::new(nodes)),
-        Err(error) if error.is_memory() => Err(Problem::Refused(error)),
-        Err(_) => Err(Problem::NoTree),
+    match language.blocks.register("twice", plugin) {
+        Ok(_) => Ok(language),
+        Err(error) => {
+            drop(language);
+            Err(Problem::from(error))
+        }
     }
 }
 
-/// Renders once over the runtime, and compares what is written with the row.
-fn rendered(
+/// Renders in a language over the row's globals, and then once more.
+fn captured_in<F, T, B>(
     alloc: Global,
     row: &Row,
-    page: &Captured,
-    runtime: &mut BuiltRuntime<(), ()>,
-) -> Result<Told, Problem> {
-    let mut sink = TextSink::new(alloc);
-    let answer = page.render_to(alloc, &mut sink, runtime);
-    told(alloc, sink.as_bytes(), &answer, row.written(), row.error())
+    language: Language<F, T, B>,
+    boxes: usize,
+) -> Result<Seen, Problem>
+where
+    F: ParseFilter + Drop,
+    T: ParseTag<F> + Drop,
+    B: ParseBlock<F> + Drop,
+    T::Node: Renderable<()>,
+    B::Node: Renderable<()>,
+{
+    let made = both(page(alloc, row, &language), row.globals(alloc));
+    drop(language);
+    let (page, globals) = made?;
+    let mut runtime = built(alloc, globals);
+    let seen = seen_over(alloc, row, &page, &mut runtime, boxes);
+    drop(runtime);
+    drop(page);
+    seen
 }
 
-/// Renders over the row's globals, and then once more.
+/// Renders over the row's globals after that many boxes, and then once more.
 pub fn captured(alloc: Global, row: &Row, boxes: usize) -> Result<Seen, Problem> {
-    let page = page(alloc, row)?;
-    let globals = row.globals(alloc)?;
-    let mut runtime: BuiltRuntime<(), ()> = RuntimeBuilder::new(alloc).set_globals(globals).build();
-    let mut sink = TextSink::new(alloc);
-    let before = taken(alloc, boxes);
-    let answer = page.render_to(alloc, &mut sink, &mut runtime);
-    let after = taken(alloc, MOST);
-    let first = told(alloc, sink.as_bytes(), &answer, row.written(), row.error())?;
-    let next = rendered(alloc, row, &page, &mut runtime)?;
-    Ok(Seen {
-        before,
-        after,
-        first,
-        next,
-    })
+    captured_in(alloc, row, language(alloc)?, boxes)
 }

@@ -1,74 +1,86 @@
 //! Compiling a row's partials.
-use crate::growths::{MOST, Seen, Told, taken};
-use crate::problem::Problem;
+use crate::growths::{MOST, Run, Seen, Told, taken};
+use crate::problem::{Problem, both};
 use crate::rows::row::Row;
-use crate::rows::stores::{Request, all_told, shared_language};
-use bench::blocks::BlockNode;
-use bench::filters::AnyFilter;
-use bench::tags::TagNode;
-use bench::{Blocks, Filters, Tags};
-use liquid_core::PartialStore;
-use liquid_core::partials::{EagerCompiler, LazyCompiler, OnDemandCompiler, PartialCompiler};
+use crate::rows::stores::{OfSource, Request, all_told, compiler};
+use liquid_core::parser::{Language, ParseBlock, ParseFilter, ParseTag};
+use liquid_core::partials::PartialCompiler;
+use liquid_core::runtime::Renderable;
+use liquid_core::{Filter, PartialStore};
 use std::alloc::{AllocError, Global};
+use std::rc::Rc;
 
 /// Classifies a result of `compile`: a store is the row's if it has the row's results for its requests.
-fn store_told<S>(
+fn store_told<S, X, T, B>(
     alloc: Global,
     made: Result<S, AllocError>,
     requests: &[Request],
 ) -> Result<Told, Problem>
 where
-    S: PartialStore<AnyFilter, TagNode, BlockNode> + Drop,
+    X: Filter,
+    T: Renderable<()>,
+    B: Renderable<()>,
+    S: PartialStore<X, T, B> + Drop,
 {
     match made {
         Err(_) => Ok(Told::Memory),
-        Ok(mut store) => all_told(alloc, &mut store, requests),
+        Ok(mut store) => {
+            let told = all_told(alloc, &mut store, requests);
+            drop(store);
+            told
+        }
     }
 }
 
-/// Compiles the row's partials by the first compiler, and then by the second.
-fn compiled<C>(
+/// Compiles the row's partials after that many boxes.
+fn run<C, F, T, B>(
     alloc: Global,
-    row: &Row,
-    boxes: usize,
+    requests: &[Request],
     compiler: C,
-    second: C,
-) -> Result<Seen, Problem>
+    language: &Rc<Language<F, T, B>>,
+    boxes: usize,
+) -> Result<Run, Problem>
 where
-    C: PartialCompiler<Filters, Tags, Blocks> + Drop,
+    F: ParseFilter + Drop,
+    T: ParseTag<F> + Drop,
+    B: ParseBlock<F> + Drop,
+    T::Node: Renderable<()>,
+    B::Node: Renderable<()>,
+    C: PartialCompiler<F, T, B> + Drop,
     C::Store: Drop,
 {
-    let language = shared_language(alloc)?;
-    let requests = row.requests(alloc)?;
-    let (shared, other) = (language.clone()?, language.clone()?);
+    let language = language.clone()?;
     let before = taken(alloc, boxes);
-    let made = compiler.compile(alloc, shared);
+    let made = compiler.compile(alloc, language);
     let after = taken(alloc, MOST);
-    let first = store_told(alloc, made, requests.as_slice())?;
-    let made = second.compile(alloc, other);
-    let next = store_told(alloc, made, requests.as_slice())?;
-    Ok(Seen {
+    let told = store_told(alloc, made, requests)?;
+    Ok(Run {
         before,
         after,
-        first,
-        next,
+        told,
     })
 }
 
-pub fn eagerly(alloc: Global, row: &Row, boxes: usize) -> Result<Seen, Problem> {
-    let compiler = EagerCompiler::new(row.source(alloc)?);
-    let second = EagerCompiler::new(row.source(alloc)?);
-    compiled(alloc, row, boxes, compiler, second)
-}
-
-pub fn lazily(alloc: Global, row: &Row, boxes: usize) -> Result<Seen, Problem> {
-    let compiler = LazyCompiler::new(row.source(alloc)?);
-    let second = LazyCompiler::new(row.source(alloc)?);
-    compiled(alloc, row, boxes, compiler, second)
-}
-
-pub fn on_demand(alloc: Global, row: &Row, boxes: usize) -> Result<Seen, Problem> {
-    let compiler = OnDemandCompiler::new(row.source(alloc)?);
-    let second = OnDemandCompiler::new(row.source(alloc)?);
-    compiled(alloc, row, boxes, compiler, second)
+/// Compiles the row's partials after that many boxes, and then once more.
+pub fn compiled<C, F, T, B>(
+    alloc: Global,
+    row: &Row,
+    language: &Rc<Language<F, T, B>>,
+    boxes: usize,
+) -> Result<Seen, Problem>
+where
+    F: ParseFilter + Drop,
+    T: ParseTag<F> + Drop,
+    B: ParseBlock<F> + Drop,
+    T::Node: Renderable<()>,
+    B::Node: Renderable<()>,
+    C: PartialCompiler<F, T, B> + OfSource + Drop,
+    C::Store: Drop,
+{
+    let (one, other) = both(compiler::<C>(alloc, row), compiler::<C>(alloc, row))?;
+    let requests = row.requests(alloc)?;
+    let first = run(alloc, requests.as_slice(), one, language, boxes);
+    let next = run(alloc, requests.as_slice(), other, language, 0);
+    drop(requests);
+    Seen::of(first, next)
 }

@@ -1,51 +1,121 @@
 //! Parsing a row's template.
-use crate::growths::{MOST, Seen, Told, taken};
-use crate::problem::Problem;
+use crate::growths::{MOST, Run, Seen, Told, taken};
+use crate::problem::{Problem, both};
+use crate::rows::pages::{Page, run_over, told};
 use crate::rows::row::Row;
-use crate::rows::stores::{TheLanguage, lazy_store, shared_language, told};
-use bench::blocks::BlockNode;
-use bench::filters::AnyFilter;
-use bench::tags::TagNode;
-use liquid_core::parser::{Node, parse};
-use liquid_core::runtime::Template;
-use liquid_core::{Error, TextSink};
+use crate::rows::stores::{OfSource, store};
+use liquid_core::Error;
+use liquid_core::parser::{Language, Node, ParseBlock, ParseFilter, ParseTag, parse};
+use liquid_core::partials::PartialCompiler;
+use liquid_core::runtime::{Renderable, Template};
 use std::alloc::Global;
 use std::rc::Rc;
 
-type Nodes = Vec<Node<AnyFilter, TagNode, BlockNode>>;
+type Nodes<F, T, B> = Vec<
+    Node<<F as ParseFilter>::Filter, <T as ParseTag<F>>::Node, <B as ParseBlock<F>>::Node>,
+>;
 
-/// Classifies a result of `parse`: a tree is the row's if it writes what the row writes.
-fn read_told(
+/// Classifies what a template writes over the row's globals.
+fn page_told<C, F, T, B>(
     alloc: Global,
     row: &Row,
-    language: &Rc<TheLanguage>,
-    read: Result<Nodes, Error>,
-) -> Result<Told, Problem> {
+    language: &Rc<Language<F, T, B>>,
+    page: &Page<F, T, B>,
+) -> Result<Told, Problem>
+where
+    F: ParseFilter + Drop,
+    T: ParseTag<F> + Drop,
+    B: ParseBlock<F> + Drop,
+    T::Node: Renderable<()>,
+    B::Node: Renderable<()>,
+    C: PartialCompiler<F, T, B> + OfSource + Drop,
+    C::Store: Drop,
+{
+    let (globals, store) = both(
+        row.globals(alloc),
+        store::<C, F, T, B>(alloc, row, language),
+    )?;
+    let mut runtime = row.runtime(alloc, globals, store);
+    let run = run_over(alloc, row, page, &mut runtime, 0);
+    drop(runtime);
+    Ok(run?.told)
+}
+
+/// Classifies a result of `parse`: a tree is the row's if it writes what the row writes.
+fn read_told<C, F, T, B>(
+    alloc: Global,
+    row: &Row,
+    language: &Rc<Language<F, T, B>>,
+    read: Result<Nodes<F, T, B>, Error>,
+) -> Result<Told, Problem>
+where
+    F: ParseFilter + Drop,
+    T: ParseTag<F> + Drop,
+    B: ParseBlock<F> + Drop,
+    T::Node: Renderable<()>,
+    B::Node: Renderable<()>,
+    C: PartialCompiler<F, T, B> + OfSource + Drop,
+    C::Store: Drop,
+{
     match read {
-        Err(error) => told(alloc, b"", &Err(error), row.written(), row.error()),
+        Err(error) => {
+            let answer = Err(error);
+            let told = told(alloc, row, b"", &answer);
+            drop(answer);
+            told
+        }
         Ok(nodes) => {
-            let store = lazy_store(alloc, row, language)?;
-            let mut runtime = row.runtime(alloc, row.globals(alloc)?, store);
-            let mut sink = TextSink::new(alloc);
-            let answer = Template::new(nodes).render_to(alloc, &mut sink, &mut runtime);
-            told(alloc, sink.as_bytes(), &answer, row.written(), row.error())
+            let page = Template::new(nodes);
+            let told = page_told::<C, F, T, B>(alloc, row, language, &page);
+            drop(page);
+            told
         }
     }
 }
 
-/// Parses the row's text.
-pub fn parsed(alloc: Global, row: &Row, boxes: usize) -> Result<Seen, Problem> {
-    let language = shared_language(alloc)?;
+/// Parses the row's text after that many boxes.
+fn run<C, F, T, B>(
+    alloc: Global,
+    row: &Row,
+    language: &Rc<Language<F, T, B>>,
+    boxes: usize,
+) -> Result<Run, Problem>
+where
+    F: ParseFilter + Drop,
+    T: ParseTag<F> + Drop,
+    B: ParseBlock<F> + Drop,
+    T::Node: Renderable<()>,
+    B::Node: Renderable<()>,
+    C: PartialCompiler<F, T, B> + OfSource + Drop,
+    C::Store: Drop,
+{
     let before = taken(alloc, boxes);
-    let read = parse(alloc, row.template(), &language);
+    let read = parse(alloc, row.template(), language);
     let after = taken(alloc, MOST);
-    let first = read_told(alloc, row, &language, read)?;
-    let again = parse(alloc, row.template(), &language);
-    let next = read_told(alloc, row, &language, again)?;
-    Ok(Seen {
+    let told = read_told::<C, F, T, B>(alloc, row, language, read)?;
+    Ok(Run {
         before,
         after,
-        first,
-        next,
+        told,
     })
+}
+
+/// Parses the row's text after that many boxes, and then once more.
+pub fn parsed<C, F, T, B>(
+    alloc: Global,
+    row: &Row,
+    language: &Rc<Language<F, T, B>>,
+    boxes: usize,
+) -> Result<Seen, Problem>
+where
+    F: ParseFilter + Drop,
+    T: ParseTag<F> + Drop,
+    B: ParseBlock<F> + Drop,
+    T::Node: Renderable<()>,
+    B::Node: Renderable<()>,
+    C: PartialCompiler<F, T, B> + OfSource + Drop,
+    C::Store: Drop,
+{
+    let first = run::<C, F, T, B>(alloc, row, language, boxes);
+    Seen::of(first, run::<C, F, T, B>(alloc, row, language, 0))
 }

@@ -1,40 +1,69 @@
 //! Rendering a row's template.
-ghost use Rattle.std.specs.Prelude.{◌≡◌};
-
-use crate::growths::{MOST, Seen, Told, taken};
-use crate::problem::Problem;
+use crate::growths::{MOST, Run, Seen, Told, taken};
+use crate::problem::{Problem, both};
+use crate::rows::framing::framed;
+use crate::rows::pages::{Page, page, told};
 use crate::rows::row::Row;
-use crate::rows::stores::{Lazy, Page, lazy_store, page, shared_language, told};
-use bench::forms::{Chained, Flat};
+use crate::rows::stores::{OfSource, store};
 use liquid_core::model::{Object, Value, ValueRender};
-use liquid_core::runtime::{BuiltRuntime, Frame, Runtime, Scopes};
-use liquid_core::{Error, TextSink};
+use liquid_core::parser::{Language, ParseBlock, ParseFilter, ParseTag};
+use liquid_core::partials::PartialCompiler;
+use liquid_core::runtime::{ChainedScopes, FlatScopes, Runtime, Template};
+use liquid_core::{Discreet, Error, Filter, PartialStore, TextSink};
 use std::alloc::Global;
+use std::rc::Rc;
+
+/// Returns `true` if this is the text of the value.
+fn is_shown(alloc: Global, value: &Value, text: &str) -> Result<bool, Problem> {
+    Ok(ValueRender::new(value).to_string(alloc)?.as_str() == text)
+}
+
+/// Returns `true` if two values have the same text.
+fn are_alike(alloc: Global, value: &Value, other: &Value) -> Result<bool, Problem> {
+    let wanted = ValueRender::new(value).to_string(alloc)?;
+    is_shown(alloc, other, wanted.as_str())
+}
 
 /// Returns `true` if each of the names has its value in the runtime.
 fn are_seen<R: Runtime>(alloc: Global, runtime: &R, names: &Object) -> Result<bool, Problem> {
     for (name, value) in names {
-        let Some(found) = runtime.try_get_name(name.as_str()) else {
-            return Ok(false);
+        let is_seen = match runtime.try_get_name(name.as_str()) {
+            Some(found) => are_alike(alloc, value, found)?,
+            None => false,
         };
-        let wanted = ValueRender::new(value).to_string(alloc)?;
-        if ValueRender::new(found).to_string(alloc)?.as_str() != wanted.as_str() {
+        if !is_seen {
             return Ok(false);
         }
     }
     Ok(true)
 }
 
-/// Classifies a result, if the frames are as they were before.
-fn rendered(
+/// Returns `true` if each of the names, or the problem with them, has its value in the runtime.
+fn are_all_seen<R: Runtime>(
     alloc: Global,
-    row: &Row,
-    sink: &TextSink,
-    answer: &Result<(), Error>,
-    stands: bool,
-) -> Result<Told, Problem> {
-    let told = told(alloc, sink.as_bytes(), answer, row.written(), row.error())?;
-    Ok(told.only_if(stands))
+    runtime: &R,
+    names: Result<Object, Problem>,
+) -> Result<bool, Problem> {
+    let names = names?;
+    let are_seen = are_seen(alloc, runtime, &names);
+    drop(names);
+    are_seen
+}
+
+/// Returns the globals of the runtime over which a call renders: what the template sees, or what is around it.
+fn around(alloc: Global, row: &Row, word: &str) -> Result<Object, Problem> {
+    match word {
+        "render_sandboxed" | "render_isolated" => row.parent(alloc),
+        _ => row.globals(alloc),
+    }
+}
+
+/// Returns what a call gives the template besides the runtime.
+fn given(alloc: Global, row: &Row, word: &str) -> Result<Object, Problem> {
+    match word {
+        "render_sandboxed" | "render_isolated" => row.globals(alloc),
+        _ => Ok(Object::new(alloc)),
+    }
 }
 
 /// Returns `true` if a built runtime has the frames that it was built with: no name, its globals, its depth; and, if
@@ -42,180 +71,183 @@ fn rendered(
 fn stands<R: Runtime>(
     alloc: Global,
     row: &Row,
+    word: &str,
     runtime: &R,
-    globals: &Object,
     is_over: bool,
 ) -> Result<bool, Problem> {
-    let frames = runtime.name().is_none()
+    let is_as_built = runtime.name().is_none()
         && runtime.depth() == row.depth()
-        && !runtime.registers().interrupt.interrupted()
-        && are_seen(alloc, runtime, globals)?;
-    let left = !is_over || are_seen(alloc, runtime, &row.left(alloc)?)?;
-    Ok(frames && left)
+        && !runtime.registers().interrupt.interrupted();
+    let are_kept = are_all_seen(alloc, runtime, around(alloc, row, word))?;
+    let are_left = !is_over || are_all_seen(alloc, runtime, row.left(alloc))?;
+    Ok(is_as_built && are_kept && are_left)
 }
 
-/// Classifies a call over a built runtime, which was given these globals.
+/// Classifies a call over a built runtime.
 fn came_to<R: Runtime>(
     alloc: Global,
     row: &Row,
+    word: &str,
     runtime: &R,
-    globals: &Object,
     sink: &TextSink,
     answer: &Result<(), Error>,
 ) -> Result<Told, Problem> {
-    let stands = stands(alloc, row, runtime, globals, answer.is_ok())?;
-    rendered(alloc, row, sink, answer, stands)
+    let stands = stands(alloc, row, word, runtime, answer.is_ok())?;
+    let told = told(alloc, row, sink.as_bytes(), answer)?;
+    Ok(told.only_if(stands))
 }
 
-/// Renders over the row's globals, and then once more.
-pub fn plainly(alloc: Global, row: &Row, boxes: usize) -> Result<Seen, Problem> {
-    let (page, mut runtime) = made(alloc, row, row.globals(alloc)?)?;
-    let mut sink = TextSink::new(alloc);
-    let before = taken(alloc, boxes);
-    let answer = page.render_to(alloc, &mut sink, &mut runtime);
-    let after = taken(alloc, MOST);
-    let globals = row.globals(alloc)?;
-    let first = came_to(alloc, row, &runtime, &globals, &sink, &answer)?;
-    let mut sink = TextSink::new(alloc);
-    let answer = page.render_to(alloc, &mut sink, &mut runtime);
-    let next = came_to(alloc, row, &runtime, &globals, &sink, &answer)?;
-    Ok(Seen {
-        before,
-        after,
-        first,
-        next,
-    })
-}
-
-/// Renders in a sandbox that sees the row's globals, within other globals, and then once more.
-pub fn in_a_sandbox(alloc: Global, row: &Row, boxes: usize) -> Result<Seen, Problem> {
-    let (page, mut parent) = made(alloc, row, row.parent(alloc)?)?;
-    let (data, more) = (row.globals(alloc)?, row.globals(alloc)?);
-    let mut sink = TextSink::new(alloc);
-    let before = taken(alloc, boxes);
-    let answer = page.render_sandboxed(alloc, &mut sink, &mut parent, data, Some("page"));
-    let after = taken(alloc, MOST);
-    let around = row.parent(alloc)?;
-    let first = came_to(alloc, row, &parent, &around, &sink, &answer)?;
-    let mut sink = TextSink::new(alloc);
-    let answer = page.render_sandboxed(alloc, &mut sink, &mut parent, more, Some("page"));
-    let next = came_to(alloc, row, &parent, &around, &sink, &answer)?;
-    Ok(Seen {
-        before,
-        after,
-        first,
-        next,
-    })
-}
-
-/// Renders in isolation with the row's globals, within other globals, and then once more.
-pub fn in_isolation(alloc: Global, row: &Row, boxes: usize) -> Result<Seen, Problem> {
-    let (page, mut parent) = made(alloc, row, row.parent(alloc)?)?;
-    let (data, more) = (row.globals(alloc)?, row.globals(alloc)?);
-    let mut sink = TextSink::new(alloc);
-    let before = taken(alloc, boxes);
-    let answer = page.render_isolated(alloc, &mut sink, &mut parent, data, Some("page"));
-    let after = taken(alloc, MOST);
-    let around = row.parent(alloc)?;
-    let first = came_to(alloc, row, &parent, &around, &sink, &answer)?;
-    let mut sink = TextSink::new(alloc);
-    let answer = page.render_isolated(alloc, &mut sink, &mut parent, more, Some("page"));
-    let next = came_to(alloc, row, &parent, &around, &sink, &answer)?;
-    Ok(Seen {
-        before,
-        after,
-        first,
-        next,
-    })
-}
-
-/// Returns `true` if one frame is open, with its name and its own name.
-fn has_its_frame<S: Scopes>(scopes: &S) -> bool {
-    scopes.frames() == 1 && scopes.name() == Some("frame") && scopes.try_get_name("own").is_some()
-}
-
-/// Returns the frame that is open around the call.
-fn frame(alloc: Global) -> Result<Frame, Problem> {
-    let mut names = Object::new(alloc);
-    names.insert(String::from_str(alloc, "own")?, Value::scalar(1i64))?;
-    Ok(Frame::Stack(names, Some(String::from_str(alloc, "frame")?)))
-}
-
-/// Renders over scopes with an open frame, and then once more.
-fn over<S>(
+/// Renders over a runtime, in a sandbox of what is given or in isolation.
+fn render<R, X, T, B>(
     alloc: Global,
-    row: &Row,
-    page: &Page,
-    scopes: &mut S,
-    boxes: usize,
-) -> Result<Seen, Problem>
+    word: &str,
+    page: &Template<X, T, B>,
+    sink: &mut TextSink,
+    runtime: &mut R,
+    given: Object,
+) -> Result<(), Error>
 where
-    S: Scopes<Register = (), Store = Lazy>,
-    ensures owes { S.restores scopes.new ≡ S.restores scopes.old }
+    X: Filter,
+    T: Discreet<()>,
+    B: Discreet<()>,
+    R: Runtime<Register = ()>,
+    R::Store: PartialStore<X, T, B>,
 {
-    let mut sink = TextSink::new(alloc);
-    let before = taken(alloc, boxes);
-    let answer = page.render_in(alloc, &mut sink, scopes);
-    let after = taken(alloc, MOST);
-    let first = rendered(alloc, row, &sink, &answer, has_its_frame(scopes))?;
-    let mut sink = TextSink::new(alloc);
-    let answer = page.render_in(alloc, &mut sink, scopes);
-    let next = rendered(alloc, row, &sink, &answer, has_its_frame(scopes))?;
-    Ok(Seen {
-        before,
-        after,
-        first,
-        next,
-    })
-}
-
-/// Makes scopes of one form over a base, with a frame that is ended after the calls.
-fn framed<S>(
-    alloc: Global,
-    row: &Row,
-    page: &Page,
-    base: S::Base,
-    boxes: usize,
-) -> Result<Seen, Problem>
-where
-    S: Scopes<Register = (), Store = Lazy>,
-    S::Base: Drop,
-{
-    let mut scopes = S::new(alloc, base);
-    let pushed = match frame(alloc) {
-        Ok(frame) => scopes.push(frame),
-        Err(_) => Err(Error::Memory),
-    };
-    let answer = match pushed {
-        Ok(()) => {
-            let answer = over(alloc, row, page, &mut scopes, boxes);
-            scopes.pop();
-            answer
+    match word {
+        "render_sandboxed" => page.render_sandboxed(alloc, sink, runtime, given, Some("page")),
+        "render_isolated" => page.render_isolated(alloc, sink, runtime, given, Some("page")),
+        _ => {
+            drop(given);
+            page.render_to(alloc, sink, runtime)
         }
-        Err(error) => Err(Problem::Refused(error)),
-    };
-    let _base = scopes.into_base();
-    answer
+    }
 }
 
-/// Returns the row's template, and a runtime of globals over a lazy store.
-fn made(
+/// Renders over a runtime after that many boxes.
+fn run<R, X, T, B>(
     alloc: Global,
     row: &Row,
-    globals: Object,
-) -> Result<(Page, BuiltRuntime<(), Lazy>), Problem> {
-    let language = shared_language(alloc)?;
-    let page = page(alloc, row, &language)?;
-    let store = lazy_store(alloc, row, &language)?;
-    Ok((page, row.runtime(alloc, globals, store)))
+    word: &str,
+    page: &Template<X, T, B>,
+    runtime: &mut R,
+    given: Object,
+    boxes: usize,
+) -> Result<Run, Problem>
+where
+    X: Filter,
+    T: Discreet<()>,
+    B: Discreet<()>,
+    R: Runtime<Register = ()>,
+    R::Store: PartialStore<X, T, B>,
+{
+    let mut sink = TextSink::new(alloc);
+    let before = taken(alloc, boxes);
+    let answer = render(alloc, word, page, &mut sink, runtime, given);
+    let after = taken(alloc, MOST);
+    let told = came_to(alloc, row, word, runtime, &sink, &answer);
+    drop(answer);
+    drop(sink);
+    Ok(Run {
+        before,
+        after,
+        told: told?,
+    })
 }
 
-pub fn over_chained(alloc: Global, row: &Row, boxes: usize) -> Result<Seen, Problem> {
-    let (page, base) = made(alloc, row, row.globals(alloc)?)?;
-    framed::<Chained<Lazy>>(alloc, row, &page, base, boxes)
+/// Renders over a runtime after that many boxes, and then once more.
+fn over_runtime<R, X, T, B>(
+    alloc: Global,
+    row: &Row,
+    word: &str,
+    page: &Template<X, T, B>,
+    mut runtime: R,
+    boxes: usize,
+) -> Result<Seen, Problem>
+where
+    X: Filter,
+    T: Discreet<()>,
+    B: Discreet<()>,
+    R: Runtime<Register = ()> + Drop,
+    R::Store: PartialStore<X, T, B>,
+{
+    let (data, more) = both(given(alloc, row, word), given(alloc, row, word))?;
+    let first = run(alloc, row, word, page, &mut runtime, data, boxes);
+    let next = run(alloc, row, word, page, &mut runtime, more, 0);
+    drop(runtime);
+    Seen::of(first, next)
 }
 
-pub fn over_flat(alloc: Global, row: &Row, boxes: usize) -> Result<Seen, Problem> {
-    let (page, base) = made(alloc, row, row.globals(alloc)?)?;
-    framed::<Flat<Lazy>>(alloc, row, &page, base, boxes)
+/// Renders over a runtime, or over scopes of one form over it, after that many boxes, and then once more.
+fn over<R, X, T, B>(
+    alloc: Global,
+    row: &Row,
+    word: &str,
+    page: &Template<X, T, B>,
+    runtime: R,
+    boxes: usize,
+) -> Result<Seen, Problem>
+where
+    X: Filter,
+    T: Discreet<()>,
+    B: Discreet<()>,
+    R: Runtime<Register = ()> + Drop,
+    R::Store: PartialStore<X, T, B>,
+{
+    match word {
+        "render_in_chained" => {
+            framed::<ChainedScopes<R>, X, T, B>(alloc, row, page, runtime, boxes)
+        }
+        "render_in_flat" => framed::<FlatScopes<R>, X, T, B>(alloc, row, page, runtime, boxes),
+        "render_to" | "render_sandboxed" | "render_isolated" => {
+            over_runtime(alloc, row, word, page, runtime, boxes)
+        }
+        _ => Err(Problem::Case),
+    }
+}
+
+/// Renders a page over a store of the row's partials after that many boxes, and then once more.
+fn over_store<C, F, T, B>(
+    alloc: Global,
+    row: &Row,
+    language: &Rc<Language<F, T, B>>,
+    word: &str,
+    page: &Page<F, T, B>,
+    boxes: usize,
+) -> Result<Seen, Problem>
+where
+    F: ParseFilter + Drop,
+    T: ParseTag<F> + Drop,
+    B: ParseBlock<F> + Drop,
+    T::Node: Discreet<()>,
+    B::Node: Discreet<()>,
+    C: PartialCompiler<F, T, B> + OfSource + Drop,
+    C::Store: Drop,
+{
+    let globals = around(alloc, row, word);
+    let (globals, store) = both(globals, store::<C, F, T, B>(alloc, row, language))?;
+    let runtime = row.runtime(alloc, globals, store);
+    over(alloc, row, word, page, runtime, boxes)
+}
+
+/// Renders the row's template after that many boxes, and then once more.
+pub fn rendered<C, F, T, B>(
+    alloc: Global,
+    row: &Row,
+    language: &Rc<Language<F, T, B>>,
+    word: &str,
+    boxes: usize,
+) -> Result<Seen, Problem>
+where
+    F: ParseFilter + Drop,
+    T: ParseTag<F> + Drop,
+    B: ParseBlock<F> + Drop,
+    T::Node: Discreet<()>,
+    B::Node: Discreet<()>,
+    C: PartialCompiler<F, T, B> + OfSource + Drop,
+    C::Store: Drop,
+{
+    let page = page(alloc, row, language)?;
+    let seen = over_store::<C, F, T, B>(alloc, row, language, word, &page, boxes);
+    drop(page);
+    seen
 }

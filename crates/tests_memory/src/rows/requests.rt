@@ -1,37 +1,44 @@
 //! Requests to stores.
-use crate::growths::{MOST, Seen, Told, taken};
+use crate::growths::{MOST, Run, Seen, Told, taken};
 use crate::problem::Problem;
 use crate::rows::row::Row;
-use crate::rows::stores::{
-    Eager, Lazy, OnDemand, Page, Request, all_told, lazy_store, request_told, shared_language,
-};
-use bench::blocks::BlockNode;
-use bench::filters::AnyFilter;
-use bench::tags::TagNode;
-use liquid_core::partials::{EagerCompiler, OnDemandCompiler, PartialCompiler};
-use liquid_core::{Error, PartialStore};
+use crate::rows::stores::{OfSource, Request, all_told, request_told, store};
+use liquid_core::parser::{Language, ParseBlock, ParseFilter, ParseTag};
+use liquid_core::partials::{InMemorySource, PartialCompiler};
+use liquid_core::runtime::{Renderable, Template};
+use liquid_core::{EagerStore, Error, Filter, LazyStore, OnDemandStore, PartialStore};
 use std::alloc::Global;
 use std::rc::Rc;
 
 /// A store that may know whether it keeps the result for a name.
-trait Keeping {
+pub trait Keeping {
     /// Returns whether the result for the name is kept, or `None` if the store doesn't know.
     fn keeps(&self, name: &str) -> Option<bool>;
 }
 
-impl Keeping for Eager {
+impl<F, T, B> Keeping for EagerStore<InMemorySource, F, T, B>
+where
+    F: ParseFilter + Drop,
+    T: ParseTag<F> + Drop,
+    B: ParseBlock<F> + Drop,
+{
     fn keeps(&self, _name: &str) -> Option<bool> {
         None
     }
 }
 
-impl Keeping for OnDemand {
+impl<F, T, B> Keeping for OnDemandStore<InMemorySource, F, T, B> {
     fn keeps(&self, _name: &str) -> Option<bool> {
         None
     }
 }
 
-impl Keeping for Lazy {
+impl<F, T, B> Keeping for LazyStore<InMemorySource, F, T, B>
+where
+    F: ParseFilter + Drop,
+    T: ParseTag<F> + Drop,
+    B: ParseBlock<F> + Drop,
+{
     fn keeps(&self, name: &str) -> Option<bool> {
         Some(self.is_kept(name))
     }
@@ -39,21 +46,24 @@ impl Keeping for Lazy {
 
 /// A result, and whether the name was kept before the request and after it.
 #[derive(Drop)]
-struct Answered {
-    found: Result<Rc<Page>, Error>,
+struct Answered<X, T, B> {
+    found: Result<Rc<Template<X, T, B>>, Error>,
     kept_before: Option<bool>,
     kept_after: Option<bool>,
 }
 
 /// Requests each name. The list has room for all results, so that only the requests take memory.
-fn asked<S>(
+fn ask<S, X, T, B>(
     alloc: Global,
     store: &mut S,
     requests: &[Request],
-    answers: &mut Vec<Answered>,
+    answers: &mut Vec<Answered<X, T, B>>,
 ) -> Result<(), Problem>
 where
-    S: PartialStore<AnyFilter, TagNode, BlockNode> + Keeping,
+    X: Filter,
+    T: Renderable<()>,
+    B: Renderable<()>,
+    S: PartialStore<X, T, B> + Keeping,
 {
     for request in requests {
         let name = request.name.as_str();
@@ -71,7 +81,7 @@ where
 
 /// Returns `true` if the name is kept as it should be: an out-of-memory error changes nothing, and otherwise a name is
 /// kept exactly if the store has it.
-fn is_kept_so(answered: &Answered, told: Told, is_there: bool) -> bool {
+fn is_kept_so<X, T, B>(answered: &Answered<X, T, B>, told: Told, is_there: bool) -> bool {
     match answered.kept_after {
         None => true,
         Some(kept) if told == Told::Memory => answered.kept_before == Some(kept),
@@ -80,14 +90,17 @@ fn is_kept_so(answered: &Answered, told: Told, is_there: bool) -> bool {
 }
 
 /// Returns what all results are together.
-fn together<S>(
+fn together<S, X, T, B>(
     alloc: Global,
     store: &S,
     requests: &[Request],
-    answers: &[Answered],
+    answers: &[Answered<X, T, B>],
 ) -> Result<Told, Problem>
 where
-    S: PartialStore<AnyFilter, TagNode, BlockNode>,
+    X: Filter,
+    T: Renderable<()>,
+    B: Renderable<()>,
+    S: PartialStore<X, T, B>,
 {
     let mut all = Told::Whole.only_if(requests.len() == answers.len());
     for (request, answered) in requests.iter().zip(answers) {
@@ -98,40 +111,87 @@ where
     Ok(all)
 }
 
-/// Requests the row's names from a store, and then once more.
-fn requested<S>(alloc: Global, row: &Row, boxes: usize, store: &mut S) -> Result<Seen, Problem>
+/// Requests the names after that many boxes, and lists the results.
+fn run<S, X, T, B>(
+    alloc: Global,
+    store: &mut S,
+    requests: &[Request],
+    answers: &mut Vec<Answered<X, T, B>>,
+    boxes: usize,
+) -> Result<Run, Problem>
 where
-    S: PartialStore<AnyFilter, TagNode, BlockNode> + Keeping,
+    X: Filter,
+    T: Renderable<()>,
+    B: Renderable<()>,
+    S: PartialStore<X, T, B> + Keeping,
 {
-    let requests = row.requests(alloc)?;
-    let mut answers = Vec::with_capacity(alloc, requests.len())?;
     let before = taken(alloc, boxes);
-    asked(alloc, store, requests.as_slice(), &mut answers)?;
+    ask(alloc, store, requests, answers)?;
     let after = taken(alloc, MOST);
-    let first = together(alloc, store, requests.as_slice(), answers.as_slice())?;
-    let next = all_told(alloc, store, requests.as_slice())?;
-    Ok(Seen {
+    let told = together(alloc, store, requests, answers.as_slice())?;
+    Ok(Run {
         before,
         after,
-        first,
-        next,
+        told,
     })
 }
 
-pub fn of_eager(alloc: Global, row: &Row, boxes: usize) -> Result<Seen, Problem> {
-    let language = shared_language(alloc)?;
-    let mut store = EagerCompiler::new(row.source(alloc)?).compile(alloc, language.clone()?)?;
-    requested(alloc, row, boxes, &mut store)
+/// Requests the names once more.
+fn run_again<S, X, T, B>(alloc: Global, store: &mut S, requests: &[Request]) -> Result<Run, Problem>
+where
+    X: Filter,
+    T: Renderable<()>,
+    B: Renderable<()>,
+    S: PartialStore<X, T, B>,
+{
+    let told = all_told(alloc, store, requests)?;
+    Ok(Run {
+        before: None,
+        after: None,
+        told,
+    })
 }
 
-pub fn of_lazy(alloc: Global, row: &Row, boxes: usize) -> Result<Seen, Problem> {
-    let language = shared_language(alloc)?;
-    let mut store = lazy_store(alloc, row, &language)?;
-    requested(alloc, row, boxes, &mut store)
+/// Requests the names from a store after that many boxes, and then once more.
+fn requested_of<S, X, T, B>(
+    alloc: Global,
+    store: &mut S,
+    requests: &[Request],
+    boxes: usize,
+) -> Result<Seen, Problem>
+where
+    X: Filter,
+    T: Renderable<()>,
+    B: Renderable<()>,
+    S: PartialStore<X, T, B> + Keeping,
+{
+    let mut answers = Vec::with_capacity(alloc, requests.len())?;
+    let first = run(alloc, store, requests, &mut answers, boxes);
+    drop(answers);
+    let next = run_again(alloc, store, requests);
+    Seen::of(first, next)
 }
 
-pub fn of_on_demand(alloc: Global, row: &Row, boxes: usize) -> Result<Seen, Problem> {
-    let language = shared_language(alloc)?;
-    let mut store = OnDemandCompiler::new(row.source(alloc)?).compile(alloc, language.clone()?)?;
-    requested(alloc, row, boxes, &mut store)
+/// Requests the row's names from a store after that many boxes, and then once more.
+pub fn requested<C, F, T, B>(
+    alloc: Global,
+    row: &Row,
+    language: &Rc<Language<F, T, B>>,
+    boxes: usize,
+) -> Result<Seen, Problem>
+where
+    F: ParseFilter + Drop,
+    T: ParseTag<F> + Drop,
+    B: ParseBlock<F> + Drop,
+    T::Node: Renderable<()>,
+    B::Node: Renderable<()>,
+    C: PartialCompiler<F, T, B> + OfSource + Drop,
+    C::Store: Keeping + Drop,
+{
+    let mut store = store::<C, F, T, B>(alloc, row, language)?;
+    let requests = row.requests(alloc)?;
+    let seen = requested_of(alloc, &mut store, requests.as_slice(), boxes);
+    drop(requests);
+    drop(store);
+    seen
 }

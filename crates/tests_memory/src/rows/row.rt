@@ -11,7 +11,7 @@ use std::alloc::Global;
 /// `parent` is what is around a sandbox of it, and `left` are names with their text afterwards. `partials` are its
 /// partials, or the template alone under the name `t`. `requests` are names that are requested from a store of them one
 /// after another, each with what the partial is by itself.
-const ROWS: &str =
+static ROWS: &str =
     r#"{"name": "raw", "template": "{% raw %}{{ a }}{{% endraw %}{% raw %} x {%- endraw %}", "written": "{{ a }}{ x", "requests": [["t", "{{ a }}{ x"]]}
 {"name": "frames", "template": "{% with x 1 %}a{% sbox %}b{% glob %}{% set g 2 %}{{ g }}{% endglob %}{% endsbox %}{{ x }}{% endwith %}", "written": "ab21", "requests": [["t", "ab21"]]}
 {"name": "sandbox", "template": "{{ b }}{% set g 5 %}", "globals": {"b": 2}, "parent": {"s": "S"}, "left": {"g": "5"}, "written": "2", "requests": [["t", "liquid: Unknown variable\n  with:\n    requested variable=b\n"]]}
@@ -41,6 +41,7 @@ impl Row {
             if row.text("name") == name {
                 return Ok(row);
             }
+            drop(row);
         }
         Err(Problem::Case)
     }
@@ -112,37 +113,70 @@ impl Row {
             .build()
     }
 
-    /// Returns the partials.
-    pub fn source(&self, alloc: Global) -> Result<InMemorySource, Problem> {
-        let mut source = InMemorySource::new(alloc);
+    /// Adds the partials to a source.
+    fn add_partials(&self, alloc: Global, source: &mut InMemorySource) -> Result<(), Problem> {
         let Some(partials) = self.json.get("partials") else {
-            let name = String::from_str(alloc, "t")?;
-            source.add(name, String::from_str(alloc, self.template())?)?;
-            return Ok(source);
+            return add_partial(alloc, source, "t", self.template());
         };
         let Some(partials) = partials.as_array() else {
             return Err(Problem::Row);
         };
         for partial in partials {
-            let name = String::from_str(alloc, text_at(partial, 0))?;
-            source.add(name, String::from_str(alloc, text_at(partial, 1))?)?;
+            add_partial(alloc, source, text_at(partial, 0), text_at(partial, 1))?;
         }
-        Ok(source)
+        Ok(())
+    }
+
+    /// Returns the partials.
+    pub fn source(&self, alloc: Global) -> Result<InMemorySource, Problem> {
+        let mut source = InMemorySource::new(alloc);
+        match self.add_partials(alloc, &mut source) {
+            Ok(()) => Ok(source),
+            Err(problem) => {
+                drop(source);
+                Err(problem)
+            }
+        }
     }
 
     /// Returns the names that are requested from a store, each with what the partial is by itself.
     pub fn requests(&self, alloc: Global) -> Result<Vec<Request>, Problem> {
-        let mut requests = Vec::new(alloc);
         let Some(Json::Array(list)) = self.json.get("requests") else {
             return Err(Problem::Row);
         };
-        for request in list {
-            let name = String::from_str(alloc, text_at(request, 0))?;
-            let answer = String::from_str(alloc, text_at(request, 1))?;
-            requests.push(Request { name, answer })?;
+        let mut requests = Vec::new(alloc);
+        match add_requests(alloc, &mut requests, list.as_slice()) {
+            Ok(()) => Ok(requests),
+            Err(problem) => {
+                drop(requests);
+                Err(problem)
+            }
         }
-        Ok(requests)
     }
+}
+
+fn add_partial(
+    alloc: Global,
+    source: &mut InMemorySource,
+    name: &str,
+    text: &str,
+) -> Result<(), Problem> {
+    let name = String::from_str(alloc, name)?;
+    source.add(name, String::from_str(alloc, text)?)?;
+    Ok(())
+}
+
+fn request(alloc: Global, json: &Json) -> Result<Request, Problem> {
+    let name = String::from_str(alloc, text_at(json, 0))?;
+    let answer = String::from_str(alloc, text_at(json, 1))?;
+    Ok(Request { name, answer })
+}
+
+fn add_requests(alloc: Global, requests: &mut Vec<Request>, list: &[Json]) -> Result<(), Problem> {
+    for json in list {
+        requests.push(request(alloc, json)?)?;
+    }
+    Ok(())
 }
 
 fn text_at(list: &Json, place: usize) -> &str {

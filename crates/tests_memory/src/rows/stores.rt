@@ -1,30 +1,62 @@
 //! The stores of a row's partials.
+use crate::built::built;
 use crate::growths::Told;
 use crate::problem::Problem;
 use crate::rows::row::Row;
-use bench::blocks::BlockNode;
-use bench::filters::AnyFilter;
-use bench::languages::language;
-use bench::tags::TagNode;
-use bench::{Blocks, Filters, Tags};
-use liquid_core::parser::{Language, parse};
+use liquid_core::model::Object;
+use liquid_core::parser::{Language, ParseBlock, ParseFilter, ParseTag};
 use liquid_core::partials::{
-    EagerStore, InMemorySource, LazyCompiler, LazyStore, OnDemandStore, PartialCompiler,
+    EagerCompiler, InMemorySource, LazyCompiler, OnDemandCompiler, PartialCompiler,
 };
-use liquid_core::runtime::{BuiltRuntime, RuntimeBuilder, Template};
-use liquid_core::{Error, PartialStore, TextSink};
+use liquid_core::runtime::{Renderable, Runtime, Template};
+use liquid_core::{Error, Filter, PartialStore, TextSink};
 use std::alloc::Global;
 use std::rc::Rc;
 
-pub type TheLanguage = Language<Filters, Tags, Blocks>;
+/// A compiler of partials in memory.
+pub trait OfSource {
+    /// Returns a compiler of this source.
+    fn of_source(source: InMemorySource) -> Self;
+}
 
-pub type Page = Template<AnyFilter, TagNode, BlockNode>;
+impl OfSource for EagerCompiler<InMemorySource> {
+    fn of_source(source: InMemorySource) -> EagerCompiler<InMemorySource> {
+        EagerCompiler::new(source)
+    }
+}
 
-pub type Eager = EagerStore<InMemorySource, Filters, Tags, Blocks>;
+impl OfSource for LazyCompiler<InMemorySource> {
+    fn of_source(source: InMemorySource) -> LazyCompiler<InMemorySource> {
+        LazyCompiler::new(source)
+    }
+}
 
-pub type Lazy = LazyStore<InMemorySource, Filters, Tags, Blocks>;
+impl OfSource for OnDemandCompiler<InMemorySource> {
+    fn of_source(source: InMemorySource) -> OnDemandCompiler<InMemorySource> {
+        OnDemandCompiler::new(source)
+    }
+}
 
-pub type OnDemand = OnDemandStore<InMemorySource, Filters, Tags, Blocks>;
+/// Returns a compiler of the row's partials.
+pub fn compiler<C: OfSource>(alloc: Global, row: &Row) -> Result<C, Problem> {
+    Ok(C::of_source(row.source(alloc)?))
+}
+
+/// Returns a store of the row's partials.
+pub fn store<C, F, T, B>(
+    alloc: Global,
+    row: &Row,
+    language: &Rc<Language<F, T, B>>,
+) -> Result<C::Store, Problem>
+where
+    F: ParseFilter + Drop,
+    T: ParseTag<F> + Drop,
+    B: ParseBlock<F> + Drop,
+    C: PartialCompiler<F, T, B> + OfSource + Drop,
+{
+    let compiler: C = compiler(alloc, row)?;
+    Ok(compiler.compile(alloc, language.clone()?)?)
+}
 
 /// A name that is requested from a store, and what the partial is by itself: what it writes over a runtime without
 /// names, with the text of its error after it.
@@ -34,50 +66,8 @@ pub struct Request {
     pub answer: String,
 }
 
-/// Returns the language that all rows are parsed in.
-pub fn shared_language(alloc: Global) -> Result<Rc<TheLanguage>, Problem> {
-    Ok(Rc::new(alloc, language(alloc)?)?)
-}
-
-/// Returns the row's template, parsed.
-pub fn page(alloc: Global, row: &Row, language: &TheLanguage) -> Result<Page, Problem> {
-    match parse(alloc, row.template(), language) {
-        Ok(nodes) => Ok(Template::new(nodes)),
-        Err(error) if error.is_memory() => Err(Problem::Refused(error)),
-        Err(_) => Err(Problem::NoTree),
-    }
-}
-
-/// Returns a lazy store of the row's partials.
-pub fn lazy_store(alloc: Global, row: &Row, language: &Rc<TheLanguage>) -> Result<Lazy, Problem> {
-    Ok(LazyCompiler::new(row.source(alloc)?).compile(alloc, language.clone()?)?)
-}
-
-/// Compares a result and what was written before it with a text, followed by the text of an error.
-pub fn told(
-    alloc: Global,
-    written: &[u8],
-    answer: &Result<(), Error>,
-    text: &str,
-    refusal: &str,
-) -> Result<Told, Problem> {
-    match answer {
-        Err(error) if error.is_memory() => {
-            Ok(Told::Memory.only_if(text.as_bytes().starts_with(written)))
-        }
-        Err(error) => {
-            let said = error.to_string(alloc)?;
-            Ok(Told::Whole.only_if(text.as_bytes() == written && said.as_str() == refusal))
-        }
-        Ok(()) => Ok(Told::Whole.only_if(text.as_bytes() == written && refusal.is_empty())),
-    }
-}
-
-/// Returns what a partial is by itself.
-fn shown(alloc: Global, template: &Page) -> Result<String, Problem> {
-    let mut runtime: BuiltRuntime<(), ()> = RuntimeBuilder::new(alloc).build();
-    let mut sink = TextSink::new(alloc);
-    let answer = template.render_to(alloc, &mut sink, &mut runtime);
+/// Returns what was written, with the text of an error after it.
+fn text_of(alloc: Global, sink: TextSink, answer: &Result<(), Error>) -> Result<String, Problem> {
     let Ok(mut text) = sink.into_string() else {
         return Err(Problem::Row);
     };
@@ -87,29 +77,76 @@ fn shown(alloc: Global, template: &Page) -> Result<String, Problem> {
     Ok(text)
 }
 
+/// Returns what a partial is over a runtime.
+fn shown_over<R, X, T, B>(
+    alloc: Global,
+    page: &Template<X, T, B>,
+    runtime: &mut R,
+) -> Result<String, Problem>
+where
+    X: Filter,
+    T: Renderable<()>,
+    B: Renderable<()>,
+    R: Runtime<Register = ()>,
+    R::Store: PartialStore<X, T, B>,
+{
+    let mut sink = TextSink::new(alloc);
+    let answer = page.render_to(alloc, &mut sink, runtime);
+    let text = text_of(alloc, sink, &answer);
+    drop(answer);
+    text
+}
+
+/// Returns what a partial is by itself.
+fn shown<X, T, B>(alloc: Global, page: &Template<X, T, B>) -> Result<String, Problem>
+where
+    X: Filter,
+    T: Renderable<()>,
+    B: Renderable<()>,
+{
+    let mut runtime = built(alloc, Object::new(alloc));
+    let text = shown_over(alloc, page, &mut runtime);
+    drop(runtime);
+    text
+}
+
 /// Compares the result of a store for a request with the row's.
-pub fn request_told(
+pub fn request_told<X, T, B>(
     alloc: Global,
     request: &Request,
-    found: &Result<Rc<Page>, Error>,
-) -> Result<Told, Problem> {
+    found: &Result<Rc<Template<X, T, B>>, Error>,
+) -> Result<Told, Problem>
+where
+    X: Filter,
+    T: Renderable<()>,
+    B: Renderable<()>,
+{
     let text = match found {
         Err(error) if error.is_memory() => return Ok(Told::Memory),
         Err(error) => error.to_string(alloc)?,
-        Ok(template) => shown(alloc, template)?,
+        Ok(page) => shown(alloc, page)?,
     };
     Ok(Told::Whole.only_if(text.as_str() == request.answer.as_str()))
 }
 
 /// Compares the results of a store for all requests, one after another, with the row's.
-pub fn all_told<S>(alloc: Global, store: &mut S, requests: &[Request]) -> Result<Told, Problem>
+pub fn all_told<S, X, T, B>(
+    alloc: Global,
+    store: &mut S,
+    requests: &[Request],
+) -> Result<Told, Problem>
 where
-    S: PartialStore<AnyFilter, TagNode, BlockNode>,
+    X: Filter,
+    T: Renderable<()>,
+    B: Renderable<()>,
+    S: PartialStore<X, T, B>,
 {
     let mut all = Told::Whole;
     for request in requests {
         let found = store.get(alloc, request.name.as_str());
-        all = all.and(request_told(alloc, request, &found)?);
+        let told = request_told(alloc, request, &found);
+        drop(found);
+        all = all.and(told?);
     }
     Ok(all)
 }

@@ -40,9 +40,9 @@ const EQUALITIES: &str = r#"[true, "", true]
 [{"day": 16}, true, true]"#;
 
 fn is_equality(alloc: Global, row: &Line) -> Result<bool, Fail> {
+    let wanted = row.truth(2)?;
     let (left, right) = pair_of(alloc, row)?;
-    let answer = ValueViewCmp::new(&left).value_eq(&ValueViewCmp::new(&right));
-    Ok(answer == row.truth(2)?)
+    Ok(ValueViewCmp::new(&left).value_eq(&ValueViewCmp::new(&right)) == wanted)
 }
 
 #[test]
@@ -66,7 +66,8 @@ const ORDERS: &str = r#"[[1], [1, 2], "less"]
 [{"day": 15}, {"day": 16}, "less"]
 [{"moment": [10, 3600]}, {"moment": [10, 0]}, "less"]"#;
 
-fn name_of(order: Option<Ordering>) -> Option<&'static str> {
+/// Returns the name of an order, if there is one.
+pub(crate) fn name_of(order: Option<Ordering>) -> Option<&'static str> {
     match order {
         Some(Ordering::Less) => Some("less"),
         Some(Ordering::Equal) => Some("equal"),
@@ -105,9 +106,10 @@ const SAME: &str = r#"[{"a": 1, "b": 2}, {"b": 2, "a": 1}, true]
 
 /// Returns `true` if two values are the same as the row says, and have one hash where they are.
 fn is_sameness(alloc: Global, row: &Line) -> Result<bool, Fail> {
+    let wanted = row.truth(2)?;
     let (left, right) = pair_of(alloc, row)?;
     let is_same = left == right;
-    Ok(is_same == row.truth(2)? && (!is_same || fed(&left) == fed(&right)))
+    Ok((is_same == wanted) & (!is_same | (fed(&left) == fed(&right))))
 }
 
 #[test]

@@ -40,21 +40,33 @@ fn is_alone(value: &mut Value) -> bool {
     }
 }
 
+/// Fails unless a value has this text.
+fn has_text(alloc: Global, value: &Value, text: &str) -> Result<(), Fail> {
+    same(value.to_kstr(alloc)?.as_str(), text)
+}
+
+/// Fails unless a write to one of two values that share their content leaves the other one as it was.
+fn share(
+    alloc: Global,
+    first: &mut Value,
+    second: &mut Value,
+    before: &str,
+    after: &str,
+) -> Result<(), Fail> {
+    let are_shared = !is_alone(first) & !is_alone(second);
+    holds(are_shared, "two values share")?;
+    write(alloc, first)?;
+    has_text(alloc, first, after)?;
+    has_text(alloc, second, before)?;
+    let are_alone = is_alone(first) & is_alone(second);
+    holds(are_alone, "after a write each is alone")
+}
+
 /// Fails unless a write to a value that shares its content leaves the other value as it was.
 fn shares(alloc: Global, mut first: Value, before: &str, after: &str) -> Result<(), Fail> {
     holds(is_alone(&mut first), "one value is alone")?;
     let mut second = first.clone()?;
-    holds(
-        !is_alone(&mut first) && !is_alone(&mut second),
-        "two values share",
-    )?;
-    write(alloc, &mut first)?;
-    same(first.to_kstr(alloc)?.as_str(), after)?;
-    same(second.to_kstr(alloc)?.as_str(), before)?;
-    holds(
-        is_alone(&mut first) && is_alone(&mut second),
-        "after a write each is alone",
-    )
+    share(alloc, &mut first, &mut second, before, after)
 }
 
 #[test]
@@ -80,20 +92,36 @@ fn taken_object(value: &Value) -> Result<Object, Fail> {
     }
 }
 
-/// Fails unless the content can be taken while another value shares it, which keeps it.
-fn is_taken(alloc: Global) -> Result<(), Fail> {
-    let (items, members) = (array(alloc)?, object(alloc)?);
-    let mut taken = taken_array(&items)?;
-    taken.push(Value::scalar(2i64))?;
-    let mut parts = taken_object(&members)?;
-    drop(parts.insert(String::from_str(alloc, "b")?, Value::scalar(2i64))?);
-    same(Value::from(taken).to_kstr(alloc)?.as_str(), "12")?;
-    same(Value::from(parts).to_kstr(alloc)?.as_str(), "a1b2")?;
-    same(items.to_kstr(alloc)?.as_str(), "1")?;
-    same(members.to_kstr(alloc)?.as_str(), "a1")
+/// Returns the items that are taken from an array, and 2 after them.
+fn longer(array: &Value) -> Result<Value, Fail> {
+    let mut items = taken_array(array)?;
+    items.push(Value::scalar(2i64))?;
+    Ok(Value::from(items))
+}
+
+/// Returns the members that are taken from an object, and the member `b`.
+fn larger(alloc: Global, object: &Value) -> Result<Value, Fail> {
+    let mut members = taken_object(object)?;
+    let name = String::from_str(alloc, "b")?;
+    drop(members.insert(name, Value::scalar(2i64))?);
+    Ok(Value::from(members))
+}
+
+/// Fails unless the items can be taken while another value shares them, which keeps them.
+fn array_is_taken(alloc: Global, array: &Value) -> Result<(), Fail> {
+    has_text(alloc, &longer(array)?, "12")?;
+    has_text(alloc, array, "1")
+}
+
+/// Fails unless the members can be taken while another value shares them, which keeps them.
+fn object_is_taken(alloc: Global, object: &Value) -> Result<(), Fail> {
+    has_text(alloc, &larger(alloc, object)?, "a1b2")?;
+    has_text(alloc, object, "a1")
 }
 
 #[test]
 fn what_is_taken_is_a_copy_where_it_is_shared(rt: HostRuntime) -> Result<(), Fail> {
-    is_taken(rt.alloc())
+    let alloc = rt.alloc();
+    array_is_taken(alloc, &array(alloc)?)?;
+    object_is_taken(alloc, &object(alloc)?)
 }

@@ -31,9 +31,10 @@ fn shows<V: ValueView>(
     render: &str,
     source: &str,
 ) -> Result<bool, AllocError> {
-    let displayed = view.render().to_string(alloc)?.as_str() == render
-        && view.source().to_string(alloc)?.as_str() == source;
-    Ok(displayed && view.to_kstr(alloc)?.as_str() == render)
+    let is_rendered = view.render().to_string(alloc)?.as_str() == render;
+    let is_shown = view.source().to_string(alloc)?.as_str() == source;
+    let is_text = view.to_kstr(alloc)?.as_str() == render;
+    Ok(is_rendered & is_shown & is_text)
 }
 
 /// Returns `true` if the object displays the two texts.
@@ -43,117 +44,79 @@ fn object_shows<O: ObjectView>(
     render: &str,
     source: &str,
 ) -> Result<bool, AllocError> {
-    let displayed = ObjectRender::new(object).to_string(alloc)?.as_str() == render
-        && ObjectSource::new(object).to_string(alloc)?.as_str() == source;
-    Ok(displayed && shows(alloc, object, render, source)?)
+    let is_rendered = ObjectRender::new(object).to_string(alloc)?.as_str() == render;
+    let is_shown = ObjectSource::new(object).to_string(alloc)?.as_str() == source;
+    Ok(shows(alloc, object, render, source)? & is_rendered & is_shown)
 }
 
-/// Returns `true` if a reference to the object displays the two texts.
+/// Returns `true` if the object and a reference to it display the two texts.
 fn lent_object_shows<O: ObjectView>(
     alloc: Global,
     object: &O,
     render: &str,
     source: &str,
 ) -> Result<bool, AllocError> {
-    object_shows(alloc, &object, render, source)
+    let is_shown = object_shows(alloc, object, render, source)?;
+    Ok(object_shows(alloc, &object, render, source)? & is_shown)
 }
 
-/// Returns `true` if a reference to the view displays the two texts.
+/// Returns `true` if the view and a reference to it display the two texts.
 fn lent_shows<V: ValueView>(
     alloc: Global,
     view: &V,
     render: &str,
     source: &str,
 ) -> Result<bool, AllocError> {
-    shows(alloc, &view, render, source)
+    let is_shown = shows(alloc, view, render, source)?;
+    Ok(shows(alloc, &view, render, source)? & is_shown)
 }
 
 /// Returns `true` if the types that display a value write the two texts.
-fn value_is_displayed(
+pub(super) fn value_is_displayed(
     alloc: Global,
     value: &Value,
     render: &str,
     source: &str,
 ) -> Result<bool, AllocError> {
-    let rendered = ValueRender::new(value).to_string(alloc)?;
-    let shown = ValueSource::new(value).to_string(alloc)?;
-    Ok(rendered.as_str() == render && shown.as_str() == source)
-}
-
-/// Returns `true` if the value displays the two texts.
-fn value_shows(
-    alloc: Global,
-    value: &Value,
-    render: &str,
-    source: &str,
-) -> Result<bool, AllocError> {
-    shows(alloc, value, render, source)
-}
-
-/// Returns `true` if a reference to the value displays the two texts.
-fn lent_value_shows(
-    alloc: Global,
-    value: &Value,
-    render: &str,
-    source: &str,
-) -> Result<bool, AllocError> {
-    lent_shows(alloc, value, render, source)
-}
-
-/// Returns `true` if an object among the values displays the two texts.
-fn own_object_shows(
-    alloc: Global,
-    object: &Object,
-    render: &str,
-    source: &str,
-) -> Result<bool, AllocError> {
-    object_shows(alloc, object, render, source)
-}
-
-/// Returns `true` if a reference to an object among the values displays the two texts.
-fn lent_own_object_shows(
-    alloc: Global,
-    object: &Object,
-    render: &str,
-    source: &str,
-) -> Result<bool, AllocError> {
-    lent_object_shows(alloc, object, render, source)
+    let is_rendered = ValueRender::new(value).to_string(alloc)?.as_str() == render;
+    let is_shown = ValueSource::new(value).to_string(alloc)?.as_str() == source;
+    Ok(is_rendered & is_shown)
 }
 
 /// Returns `true` if the value is not an object, or if it and a reference to it display the two texts as an object.
 fn held_object_shows(
     alloc: Global,
-    value: Value,
+    value: &Value,
     render: &str,
     source: &str,
 ) -> Result<bool, AllocError> {
-    match value {
-        Value::Object(object) => Ok(
-            own_object_shows(alloc, &object, render, source)?
-                && lent_own_object_shows(alloc, &object, render, source)?,
-        ),
-        _ => Ok(true),
+    match value.as_object() {
+        Some(object) => lent_object_shows::<Object>(alloc, object, render, source),
+        None => Ok(true),
     }
 }
 
 /// Returns `true` if the value of a row displays the row's texts, by itself and through a reference.
 fn is_shown(alloc: Global, row: &Line) -> Result<bool, Fail> {
-    let value = value_at(alloc, row, 2)?;
     let (render, source) = (row.text(0)?, row.text(1)?);
-    Ok(
-        value_shows(alloc, &value, render, source)?
-            && lent_value_shows(alloc, &value, render, source)?,
-    )
+    Ok(lent_shows(alloc, &value_at(alloc, row, 2)?, render, source)?)
+}
+
+/// Returns `true` if the types that display a value and the object that it is write the two texts.
+fn all_display(
+    alloc: Global,
+    value: &Value,
+    render: &str,
+    source: &str,
+) -> Result<bool, AllocError> {
+    let is_displayed = value_is_displayed(alloc, value, render, source)?;
+    Ok(held_object_shows(alloc, value, render, source)? & is_displayed)
 }
 
 /// Returns `true` if the types that display a value or the object that it is write the row's texts.
 fn is_displayed(alloc: Global, row: &Line) -> Result<bool, Fail> {
-    let value = value_at(alloc, row, 2)?;
     let (render, source) = (row.text(0)?, row.text(1)?);
-    Ok(
-        value_is_displayed(alloc, &value, render, source)?
-            && held_object_shows(alloc, value, render, source)?,
-    )
+    Ok(all_display(alloc, &value_at(alloc, row, 2)?, render, source)?)
 }
 
 #[test]
@@ -196,31 +159,31 @@ fn views_show_what_is_absent(rt: HostRuntime) -> Result<(), Fail> {
     holds(shows(alloc, &absent, "", "nil")?, "no state")
 }
 
-const NAMES: [(&str, Option<i64>); 3] = [("b", Some(2)), ("c", None), ("a", None)];
+static NAMES: [(&str, Option<i64>); 3] = [("b", Some(2)), ("c", None), ("a", None)];
 
 const NAMES_SOURCE: &str = "{\"a\": , \"b\": 2, \"c\": , }";
 
-fn named(alloc: Global) -> Result<BTreeMap<Name, Option<i64>>, AllocError> {
-    let mut names: BTreeMap<Name, Option<i64>> = BTreeMap::new(alloc);
-    for (name, number) in NAMES {
-        drop(names.insert(Name(String::from_str(alloc, name)?), number)?);
+type Named = BTreeMap<Name, Option<i64>>;
+
+/// Puts names of a program's own type into a map.
+fn add_names(alloc: Global, names: &mut Named) -> Result<(), AllocError> {
+    for (name, number) in &NAMES {
+        drop(names.insert(Name(String::from_str(alloc, name)?), *number)?);
     }
-    Ok(names)
+    Ok(())
 }
 
-#[test]
-fn maps_show_what_is_absent(rt: HostRuntime) -> Result<(), Fail> {
-    let alloc = rt.alloc();
-    let names = named(alloc)?;
+/// Fails unless a map shows its names, and has no others.
+fn names_are_shown(alloc: Global, names: &Named) -> Result<(), Fail> {
     holds(
-        object_shows(alloc, &names, "ab2c", NAMES_SOURCE)?,
+        object_shows(alloc, names, "ab2c", NAMES_SOURCE)?,
         "its texts",
     )?;
     holds(
-        ObjectView::contains_key(&names, "c"),
+        ObjectView::contains_key(names, "c"),
         "a name without a number",
     )?;
-    holds(!ObjectView::contains_key(&names, "d"), "no such name")?;
+    holds(!ObjectView::contains_key(names, "d"), "no such name")?;
     match names.lookup(alloc, "b")? {
         Some(found) => holds(*found.as_view() == Value::scalar(2i64), "a name's number"),
         None => Err(Fail::from("a name has no value")),
@@ -228,12 +191,26 @@ fn maps_show_what_is_absent(rt: HostRuntime) -> Result<(), Fail> {
 }
 
 #[test]
+fn maps_show_what_is_absent(rt: HostRuntime) -> Result<(), Fail> {
+    let alloc = rt.alloc();
+    let mut names: Named = BTreeMap::new(alloc);
+    add_names(alloc, &mut names)?;
+    names_are_shown(alloc, &names)
+}
+
+/// Puts names into a map without order.
+fn add_hashed(alloc: Global, names: &mut HashMap<String, Option<i64>>) -> Result<(), AllocError> {
+    for (name, number) in &NAMES {
+        drop(names.insert(String::from_str(alloc, name)?, *number)?);
+    }
+    Ok(())
+}
+
+#[test]
 fn maps_without_order_show_what_is_absent(rt: HostRuntime) -> Result<(), Fail> {
     let alloc = rt.alloc();
     let mut hashed: HashMap<String, Option<i64>> = HashMap::new(alloc);
-    for (name, number) in NAMES {
-        drop(hashed.insert(String::from_str(alloc, name)?, number)?);
-    }
+    add_hashed(alloc, &mut hashed)?;
     holds(
         object_shows(alloc, &hashed, "ab2c", NAMES_SOURCE)?,
         "its texts",

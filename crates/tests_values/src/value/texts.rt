@@ -1,6 +1,6 @@
 //! Values with their texts and their states.
+use super::shown::value_is_displayed;
 use super::value_at;
-use liquid_value::render::{ValueRender, ValueSource};
 use liquid_value::{State, Value};
 use std::alloc::{AllocError, Global};
 use std::test::Fail;
@@ -21,16 +21,17 @@ const TEXTS: &str = r#"["1", "1", "whole number", 1]
 
 /// Returns `true` if the types that display a value write the row's texts.
 fn is_displayed(alloc: Global, row: &Line) -> Result<bool, Fail> {
+    let (render, source) = (row.text(0)?, row.text(1)?);
     let value = value_at(alloc, row, 3)?;
-    let rendered = ValueRender::new(&value).to_string(alloc)?;
-    let shown = ValueSource::new(&value).to_string(alloc)?;
-    Ok(rendered.as_str() == row.text(0)? && shown.as_str() == row.text(1)?)
+    Ok(value_is_displayed(alloc, &value, render, source)?)
 }
 
 /// Returns `true` if the value's own text and the name of its type are the row's.
 fn has_text(alloc: Global, row: &Line) -> Result<bool, Fail> {
+    let (render, kind) = (row.text(0)?, row.text(2)?);
     let value = value_at(alloc, row, 3)?;
-    Ok(value.to_kstr(alloc)?.as_str() == row.text(0)? && value.type_name() == row.text(2)?)
+    let is_text = value.to_kstr(alloc)?.as_str() == render;
+    Ok(is_text & (value.type_name() == kind))
 }
 
 #[test]
@@ -39,24 +40,30 @@ fn values_have_texts(rt: HostRuntime) -> Result<(), Fail> {
     rows_hold(rt.alloc(), TEXTS, has_text)
 }
 
-/// Returns the names of the states that a value is in.
-fn states_of(alloc: Global, value: &Value) -> Result<String, AllocError> {
-    let mut names = String::new(alloc);
-    for (state, name) in [
-        (State::Truthy, "truthy"),
-        (State::DefaultValue, "default"),
-        (State::Empty, "empty"),
-        (State::Blank, "blank"),
-    ] {
-        if value.query_state(state) {
-            if !names.is_empty() {
-                names.push_str(" ")?;
-            }
-            names.push_str(name)?;
+/// Adds a name after others, with a space between.
+fn add_name(names: &mut String, name: &str) -> Result<(), AllocError> {
+    if !names.is_empty() {
+        names.push_str(" ")?;
+    }
+    names.push_str(name)
+}
+
+/// Writes down the names of the states that a value is in.
+fn add_states(names: &mut String, value: &Value) -> Result<(), AllocError> {
+    for (state, name) in &STATE_NAMES {
+        if value.query_state(*state) {
+            add_name(names, name)?;
         }
     }
-    Ok(names)
+    Ok(())
 }
+
+static STATE_NAMES: [(State, &str); 4] = [
+    (State::Truthy, "truthy"),
+    (State::DefaultValue, "default"),
+    (State::Empty, "empty"),
+    (State::Blank, "blank"),
+];
 
 // The states that a value is in, and the value.
 const STATES: &str = r#"["truthy", 0]
@@ -72,8 +79,10 @@ const STATES: &str = r#"["truthy", 0]
 ["default empty blank", {"state": "truthy"}]"#;
 
 fn is_in_states(alloc: Global, row: &Line) -> Result<bool, Fail> {
-    let value = value_at(alloc, row, 1)?;
-    Ok(states_of(alloc, &value)?.as_str() == row.text(0)?)
+    let wanted = row.text(0)?;
+    let mut names = String::new(alloc);
+    add_states(&mut names, &value_at(alloc, row, 1)?)?;
+    Ok(names.as_str() == wanted)
 }
 
 #[test]

@@ -1,6 +1,7 @@
 //! What values contain, what they are made from, and walks over objects.
 use super::{value_at, value_in};
 use liquid_scalar::Scalar;
+use liquid_value::map::{IntoIter, Iter, Keys, Values};
 use liquid_value::steps::{
     step_over_entries, step_over_keys, step_over_owned_entries, step_over_values,
 };
@@ -16,28 +17,50 @@ const PARTS: &str = r#"["scalar", 1]
 ["state", {"state": "empty"}]
 ["nil", null]"#;
 
+/// Returns `true` if a value gives a scalar.
+fn gives_scalar(value: &Value) -> Result<bool, AllocError> {
+    Ok(value.clone()?.into_scalar().is_some())
+}
+
+/// Returns `true` if a value gives an array.
+fn gives_array(value: &Value) -> Result<bool, AllocError> {
+    Ok(value.clone()?.into_array().is_some())
+}
+
+/// Returns `true` if a value gives an object.
+fn gives_object(value: &Value) -> Result<bool, AllocError> {
+    Ok(value.clone()?.into_object().is_some())
+}
+
+/// Returns `true` if a value gives a state.
+fn gives_state(value: &Value) -> Result<bool, AllocError> {
+    Ok(value.clone()?.into_state().is_some())
+}
+
 /// Returns `true` if a value gives what it contains if it is of this kind, and nothing if it isn't.
-fn gives(value: Value, kind: &str) -> Result<bool, AllocError> {
-    Ok(
-        value.clone()?.into_scalar().is_some() == (kind == "scalar")
-            && value.clone()?.into_array().is_some() == (kind == "array")
-            && value.clone()?.into_object().is_some() == (kind == "object")
-            && value.into_state().is_some() == (kind == "state"),
-    )
+fn gives(value: &Value, kind: &str) -> Result<bool, AllocError> {
+    let is_scalar = gives_scalar(value)? == (kind == "scalar");
+    let is_array = gives_array(value)? == (kind == "array");
+    let is_object = gives_object(value)? == (kind == "object");
+    let is_state = gives_state(value)? == (kind == "state");
+    Ok(is_scalar & is_array & is_object & is_state)
 }
 
 /// Returns `true` if a value lends what it contains if it is of this kind, and nothing if it isn't.
 fn lends(value: &mut Value, kind: &str) -> bool {
-    value.as_array().is_some() == (kind == "array")
-        && value.as_object().is_some() == (kind == "object")
-        && value.as_array_mut().is_some() == (kind == "array")
-        && value.as_object_mut().is_some() == (kind == "object")
+    let (is_array, is_object) = (kind == "array", kind == "object");
+    let is_lent = (value.as_array().is_some() == is_array)
+        & (value.as_object().is_some() == is_object);
+    let is_array_lent = value.as_array_mut().is_some() == is_array;
+    let is_object_lent = value.as_object_mut().is_some() == is_object;
+    is_lent & is_array_lent & is_object_lent
 }
 
 fn is_of_kind(alloc: Global, row: &Line) -> Result<bool, Fail> {
-    let mut value = value_at(alloc, row, 1)?;
     let kind = row.text(0)?;
-    Ok(lends(&mut value, kind) && gives(value, kind)?)
+    let mut value = value_at(alloc, row, 1)?;
+    let is_lent = lends(&mut value, kind);
+    Ok(gives(&value, kind)? & is_lent)
 }
 
 #[test]
@@ -45,24 +68,36 @@ fn values_give_what_they_hold(rt: HostRuntime) -> Result<(), Fail> {
     rows_hold(rt.alloc(), PARTS, is_of_kind)
 }
 
+/// Puts 2 after the items of an array.
+fn push(array: &mut Value) -> Result<(), AllocError> {
+    if let Some(items) = array.as_array_mut() {
+        items.to_mut()?.push(Value::scalar(2i64))?;
+    }
+    Ok(())
+}
+
 #[test]
 fn arrays_change_in_place(rt: HostRuntime) -> Result<(), Fail> {
     let alloc = rt.alloc();
     let mut array = value_in(alloc, "[1]")?;
-    if let Some(items) = array.as_array_mut() {
-        items.to_mut()?.push(Value::scalar(2i64))?;
-    }
+    push(&mut array)?;
     same(array.to_kstr(alloc)?.as_str(), "12")
+}
+
+/// Sets the member `b` of an object to 2.
+fn insert(alloc: Global, object: &mut Value) -> Result<(), AllocError> {
+    if let Some(members) = object.as_object_mut() {
+        let name = String::from_str(alloc, "b")?;
+        drop(members.to_mut()?.insert(name, Value::scalar(2i64))?);
+    }
+    Ok(())
 }
 
 #[test]
 fn objects_change_in_place(rt: HostRuntime) -> Result<(), Fail> {
     let alloc = rt.alloc();
     let mut object = value_in(alloc, "{\"a\": 1}")?;
-    if let Some(members) = object.as_object_mut() {
-        let map = members.to_mut()?;
-        drop(map.insert(String::from_str(alloc, "b")?, Value::scalar(2i64))?);
-    }
+    insert(alloc, &mut object)?;
     same(object.to_kstr(alloc)?.as_str(), "a1b2")
 }
 
@@ -71,14 +106,35 @@ fn has_a_clone(alloc: Global, row: &Line) -> Result<bool, Fail> {
     Ok(value.clone()? == value)
 }
 
-/// Returns `true` if a borrowed value is as the value, lends what it does, and is its clone if it is owned.
+/// Returns `true` if a borrowed value is as its clone.
+fn is_cloned(cow: &ValueCow<'_>) -> Result<bool, AllocError> {
+    Ok(cow.clone()? == *cow)
+}
+
+/// Returns `true` if a borrowed value is this value if it is owned.
+fn becomes(cow: ValueCow<'_>, value: &Value) -> Result<bool, AllocError> {
+    Ok(cow.into_owned()? == *value)
+}
+
+/// Returns `true` if a borrowed value is as the value, and lends what a value of this kind does.
+fn lends_alike(cow: &ValueCow<'_>, value: &Value, kind: &str) -> bool {
+    let is_array = cow.as_array().is_some() == (kind == "array");
+    let is_object = cow.as_object().is_some() == (kind == "object");
+    is_array & is_object & (*cow.as_view() == *value)
+}
+
+/// Returns `true` if a value that is borrowed is as the value, lends what it does, and is its clone if it is owned.
+fn is_borrowed_alike(value: &Value, kind: &str) -> Result<bool, AllocError> {
+    let cow = ValueCow::from(value);
+    let is_lent = lends_alike(&cow, value, kind);
+    let is_cloned = is_cloned(&cow)?;
+    Ok(becomes(cow, value)? & is_lent & is_cloned)
+}
+
+/// Returns `true` if the value of a row is borrowed alike.
 fn is_borrowed(alloc: Global, row: &Line) -> Result<bool, Fail> {
-    let value = value_at(alloc, row, 1)?;
     let kind = row.text(0)?;
-    let cow = ValueCow::from(&value);
-    let lends = cow.as_array().is_some() == (kind == "array")
-        && cow.as_object().is_some() == (kind == "object");
-    Ok(lends && cow.clone()? == cow && *cow.as_view() == value && cow.into_owned()? == value)
+    Ok(is_borrowed_alike(&value_at(alloc, row, 1)?, kind)?)
 }
 
 #[test]
@@ -108,7 +164,7 @@ fn named(alloc: Global) -> Result<Object, Fail> {
 }
 
 fn is(alloc: Global, value: Value, text: &str) -> Result<bool, Fail> {
-    Ok(value == value_in(alloc, text)?)
+    Ok(value_in(alloc, text)? == value)
 }
 
 fn is_owned(alloc: Global, cow: ValueCow<'static>, text: &str) -> Result<bool, Fail> {
@@ -157,62 +213,70 @@ fn two_entries(alloc: Global) -> Result<Object, AllocError> {
     Ok(object)
 }
 
+/// Fails unless an object has two entries, one of which is removed.
+fn has_two_entries(object: &mut Object) -> Result<(), Fail> {
+    holds(object.len() == 2, "two entries")?;
+    let has_names = object.contains_key("a") & !object.contains_key("c");
+    holds(has_names, "its names")?;
+    let is_removed = object.remove("a").is_some() & object.get("a").is_none();
+    holds(is_removed, "a name is gone")
+}
+
+/// Sets the entry `c` to 3, and then to 4.
+fn set_slot(alloc: Global, object: &mut Object) -> Result<(), AllocError> {
+    let name = String::from_str(alloc, "c")?;
+    let slot = object.entry(name)?.or_insert(Value::scalar(3i64));
+    *slot = Value::scalar(4i64);
+    Ok(())
+}
+
 #[test]
 fn objects_are_maps(rt: HostRuntime) -> Result<(), Fail> {
     let alloc = rt.alloc();
-    let mut object: Object = two_entries(alloc)?;
-    holds(object.len() == 2, "two entries")?;
-    holds(
-        object.contains_key("a") && !object.contains_key("c"),
-        "its names",
-    )?;
-    holds(
-        object.remove("a").is_some() && object.get("a").is_none(),
-        "a name is gone",
-    )?;
-    let slot = object
-        .entry(String::from_str(alloc, "c")?)?
-        .or_insert(Value::scalar(3i64));
-    *slot = Value::scalar(4i64);
+    let mut object = two_entries(alloc)?;
+    has_two_entries(&mut object)?;
+    set_slot(alloc, &mut object)?;
     same(Value::from(object).to_kstr(alloc)?.as_str(), "b2c4")
 }
 
 // How many are left before a step, the name and the text of the entry that it takes, and how many are left then.
-const STEPS: [(usize, Option<&str>, &str, usize); 4] = [
+static STEPS: [(usize, Option<&str>, &str, usize); 4] = [
     (2, Some("a"), "1", 1),
     (1, Some("b"), "2", 0),
     (0, None, "", 0),
     (0, None, "", 0),
 ];
 
-#[test]
-fn walks_over_entries_say_how_many_are_left_and_end(rt: HostRuntime) -> Result<(), Fail> {
-    let object = two_entries(rt.alloc())?;
-    let mut entries = object.iter();
-    for (left, name, _, then) in STEPS {
+/// Fails unless a walk over entries takes the steps.
+fn entries_are_walked(mut entries: Iter<'_>) -> Result<(), Fail> {
+    for (left, name, _, then) in &STEPS {
         let (before, entry, after) = step_over_entries(&mut entries);
         let found = entry.map(|(key, _)| key.as_str());
-        holds(
-            before == left && found == name && after == then,
-            "a step over entries",
-        )?;
+        let is_step = (before == *left) & (found == *name) & (after == *then);
+        holds(is_step, "a step over entries")?;
+    }
+    Ok(())
+}
+
+#[test]
+fn walks_over_entries_say_how_many_are_left_and_end(rt: HostRuntime) -> Result<(), Fail> {
+    entries_are_walked(two_entries(rt.alloc())?.iter())
+}
+
+/// Fails unless a walk over names takes the steps.
+fn names_are_walked(mut keys: Keys<'_>) -> Result<(), Fail> {
+    for (left, name, _, then) in &STEPS {
+        let (before, key, after) = step_over_keys(&mut keys);
+        let found = key.map(|key| key.as_str());
+        let is_step = (before == *left) & (found == *name) & (after == *then);
+        holds(is_step, "a step over names")?;
     }
     Ok(())
 }
 
 #[test]
 fn walks_over_names_say_how_many_are_left_and_end(rt: HostRuntime) -> Result<(), Fail> {
-    let object = two_entries(rt.alloc())?;
-    let mut keys = object.keys();
-    for (left, name, _, then) in STEPS {
-        let (before, key, after) = step_over_keys(&mut keys);
-        let found = key.map(|key| key.as_str());
-        holds(
-            before == left && found == name && after == then,
-            "a step over names",
-        )?;
-    }
-    Ok(())
+    names_are_walked(two_entries(rt.alloc())?.keys())
 }
 
 fn has_text(alloc: Global, value: Option<&Value>, text: &str) -> Result<bool, AllocError> {
@@ -222,19 +286,20 @@ fn has_text(alloc: Global, value: Option<&Value>, text: &str) -> Result<bool, Al
     }
 }
 
-#[test]
-fn walks_over_values_say_how_many_are_left_and_end(rt: HostRuntime) -> Result<(), Fail> {
-    let object = two_entries(rt.alloc())?;
-    let mut values = object.values();
-    for (left, _, text, then) in STEPS {
+/// Fails unless a walk over values takes the steps.
+fn values_are_walked(alloc: Global, mut values: Values<'_>) -> Result<(), Fail> {
+    for (left, _, text, then) in &STEPS {
         let (before, value, after) = step_over_values(&mut values);
-        let is_text = has_text(rt.alloc(), value, text)?;
-        holds(
-            before == left && is_text && after == then,
-            "a step over values",
-        )?;
+        let is_text = has_text(alloc, value, text)?;
+        let is_step = (before == *left) & is_text & (after == *then);
+        holds(is_step, "a step over values")?;
     }
     Ok(())
+}
+
+#[test]
+fn walks_over_values_say_how_many_are_left_and_end(rt: HostRuntime) -> Result<(), Fail> {
+    values_are_walked(rt.alloc(), two_entries(rt.alloc())?.values())
 }
 
 fn has_name(entry: Option<(String, Value)>, name: Option<&str>) -> bool {
@@ -244,16 +309,17 @@ fn has_name(entry: Option<(String, Value)>, name: Option<&str>) -> bool {
     }
 }
 
-#[test]
-fn owned_walks_say_how_many_are_left_and_end(rt: HostRuntime) -> Result<(), Fail> {
-    let object = two_entries(rt.alloc())?;
-    let mut owned = object.into_iter();
-    for (left, name, _, then) in STEPS {
-        let (before, entry, after) = step_over_owned_entries(&mut owned);
-        holds(
-            before == left && has_name(entry, name) && after == then,
-            "a step over owned entries",
-        )?;
+/// Fails unless a walk over owned entries takes the steps.
+fn owned_entries_are_walked(owned: &mut IntoIter) -> Result<(), Fail> {
+    for (left, name, _, then) in &STEPS {
+        let (before, entry, after) = step_over_owned_entries(owned);
+        let is_step = (before == *left) & has_name(entry, *name) & (after == *then);
+        holds(is_step, "a step over owned entries")?;
     }
     Ok(())
+}
+
+#[test]
+fn owned_walks_say_how_many_are_left_and_end(rt: HostRuntime) -> Result<(), Fail> {
+    owned_entries_are_walked(&mut two_entries(rt.alloc())?.into_iter())
 }

@@ -4,8 +4,10 @@ use Rattle.liquid_dates.proofs.date_time_text.slashed_date_time.Goals as goal
 
 pub returns-clause-fits : goal.returns-clause-fits
 returns-clause-fits c =
-    found_weaker _ _ _ (λ dt h. slashed_found c.args.given c.args.text.now c.timed_slashed_at-read.result dt c.timed_slashed_at-read.ensures.value c.timed_slashed_at-read.ensures.whole h) c.date_time_of.ensures.found
+    found_weaker _ _ _ (λ dt h. slashed_found c.args.given c.args.text.now c.timed_slashed_at-read.result dt
+    c.timed_slashed_at-read.ensures.value c.timed_slashed_at-read.ensures.whole h) c.date_time_of.ensures.found
 
 pub returns-clause-none : goal.returns-clause-none
 returns-clause-none c =
-    none_weaker _ _ _ (λ dt h. slashed_whole c.args.given c.args.text.now c.timed_slashed_at-read.result dt c.timed_slashed_at-read.ensures.value c.timed_slashed_at-read.ensures.whole h) c.date_time_of.ensures.none
+    none_weaker _ _ _ (λ dt h. slashed_whole c.args.given c.args.text.now c.timed_slashed_at-read.result dt
+    c.timed_slashed_at-read.ensures.value c.timed_slashed_at-read.ensures.whole h) c.date_time_of.ensures.none

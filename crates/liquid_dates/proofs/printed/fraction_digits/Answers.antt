@@ -11,7 +11,8 @@ pub returns-then-left-eq0 : goal.returns-then-left-eq0
 returns-then-left-eq0 g c plain ok =
     let (k, place, _, _, done, whole, wrote) = c.digits.invariant in
     let last = fraction_digits_last k c.digits.left c.digits.place place c.if-left-eq0.true in
-    let text : done ++ (48 + c.digits.left / c.digits.place) ∷ [] ≡ fraction_digits 9 c.args.nanosecond = ap (λ t. done ++ t) (sym last) ∙ whole in
+    let text : done ++ (48 + c.digits.left / c.digits.place) ∷ [] ≡ fraction_digits 9 c.args.nanosecond = ap (λ t. done ++ t) (sym last)
+    ∙ whole in
     has_written_of_eq _ _ _ _ _ text (has_written_append _ _ _ _ _ _ (wrote plain) (search rules))
 
 pub digits-preserved : goal.digits-preserved

@@ -7,4 +7,5 @@ use Rattle.liquid_error.proofs.error_text.write_traces.Given as goal
 
 abbrev pub invariant-loop-trace : goal.invariant-loop-trace
 invariant-loop-trace g l =
-    IsPlainFormatter l.initial.f → HasWritten g.W.Write.write_str_gives l.initial.f (flat_map note_text (map note_of (take l.trace-index l.traces))) l.f
+    IsPlainFormatter l.initial.f → HasWritten g.W.Write.write_str_gives l.initial.f
+    (flat_map note_text (map note_of (take l.trace-index l.traces))) l.f

@@ -13,9 +13,13 @@ returns-in-Some-clause-same c =
 pub returns-in-Some-open_bracket-clause-same : goal.returns-in-Some-open_bracket-clause-same
 returns-in-Some-open_bracket-clause-same c =
     going_at c.args.state Index c.requires.index
-    ∙ turn_open _ c.args.state.depth c.args.state.rest.now c.in-Some-open_bracket.after.now c.requires.some c.in-None.ensures.value c.in-Some-open_bracket.ensures.value
-    ∙ ap (λ (f : Option Fault). adds f (starts (c.args.state.depth + 1) c.in-Some-open_bracket.after.now)) (fault_added c.args.state.fault _ _ _ c.or.ensures c.depth_fault.ensures)
+    ∙ turn_open _ c.args.state.depth c.args.state.rest.now c.in-Some-open_bracket.after.now c.requires.some c.in-None.ensures.value
+    c.in-Some-open_bracket.ensures.value
+    ∙ ap (λ (f : Option Fault). adds f (starts (c.args.state.depth + 1) c.in-Some-open_bracket.after.now))
+    (fault_added c.args.state.fault _ _ _ c.or.ensures c.depth_fault.ensures)
 
 pub returns-in-None-open_bracket-clause-same : goal.returns-in-None-open_bracket-clause-same
 returns-in-None-open_bracket-clause-same c =
-    going_at c.args.state Index c.requires.index ∙ turn_to_close _ c.args.state.depth c.args.state.rest.now c.requires.some c.in-None.ensures.value c.in-None-open_bracket.ensures.value
+    going_at c.args.state Index c.requires.index
+    ∙ turn_to_close _ c.args.state.depth c.args.state.rest.now c.requires.some c.in-None.ensures.value
+    c.in-None-open_bracket.ensures.value

@@ -9,15 +9,19 @@ use Rattle.liquid_grammar.proofs.bracket.at_value.Goals as goal
 
 pub returns-in_err-literal-clause-same : goal.returns-in_err-literal-clause-same
 returns-in_err-literal-clause-same c =
-    match_none _ _ _ c.from_residual.ensures (going_at c.args.state Value c.requires.value ∙ turn_no_value _ _ _ c.requires.some c.in_err-literal.ensures.literal c.in_err-literal.ensures.name)
+    match_none _ _ _ c.from_residual.ensures (going_at c.args.state Value c.requires.value
+    ∙ turn_no_value _ _ _ c.requires.some c.in_err-literal.ensures.literal c.in_err-literal.ensures.name)
 
 pub returns-in-Literal-default-clause-same : goal.returns-in-Literal-default-clause-same
 returns-in-Literal-default-clause-same c =
     let head = c.in_ok-literal in
-    let found = literal_found c.args.state.rest.now head.field-0 c.in-Literal-default.literal c.in-Literal-default.is-0 head.ensures.literal in
+    let found = literal_found c.args.state.rest.now head.field-0 c.in-Literal-default.literal c.in-Literal-default.is-0
+    head.ensures.literal in
     going_at c.args.state Value c.requires.value
-    ∙ turn_literal _ c.args.state.depth c.args.state.rest.now head.field-0.1.now (literal_of c.in-Literal-default.literal) c.requires.some found
-    ∙ ap (λ (f : Option Fault). adds f (closing (resume (pred c.args.state.depth)) head.field-0.1.now)) (fault_added c.args.state.fault _ _ _ c.or.ensures c.literal_fault.ensures)
+    ∙ turn_literal _ c.args.state.depth c.args.state.rest.now head.field-0.1.now
+    (literal_of c.in-Literal-default.literal) c.requires.some found
+    ∙ ap (λ (f : Option Fault). adds f (closing (resume (pred c.args.state.depth)) head.field-0.1.now))
+    (fault_added c.args.state.fault _ _ _ c.or.ensures c.literal_fault.ensures)
 
 pub returns-in-Name-default-clause-same : goal.returns-in-Name-default-clause-same
 returns-in-Name-default-clause-same c =

@@ -5,8 +5,16 @@ use Rattle.liquid_grammar.proofs.bracket.bracketed.Goals as goal
 
 pub brackets-init : goal.brackets-init
 brackets-init c =
-    let shorter = c.in_ok-open_bracket.ensures.shorter in
-    (search rules, record { same = bracket_opens _ _ c.in_ok-open_bracket.ensures.value; less = shorter; room = omega (arith, shorter); whole = λ e. absurd (omega arith) })
+    let shorter = c.in_ok-open_bracket.ensures.shorter in (
+      search rules,
+      record {
+        same = bracket_opens _ _ c.in_ok-open_bracket.ensures.value;
+        less = shorter;
+        room =
+            omega (arith, shorter);
+        whole = λ e. absurd (omega arith);
+      },
+    )
 
 pub returns-clause-value : goal.returns-clause-value
 returns-clause-value c =

@@ -10,7 +10,8 @@ pub returns-in_err-kind-clause-kind : goal.returns-in_err-kind-clause-kind
 returns-in_err-kind-clause-kind c = nothing_chain_kind c.args.s.now _ c.from_residual.ensures c.in_err-kind.ensures.kind
 
 pub returns-in_err-kind-clause-value : goal.returns-in_err-kind-clause-value
-returns-in_err-kind-clause-value c = nothing_scan chain_fault (chain_of c.args.s.now) _ c.from_residual.ensures (no_chain_scan c.args.s.now c.in_err-kind.ensures.value)
+returns-in_err-kind-clause-value c = nothing_scan chain_fault (chain_of c.args.s.now) _ c.from_residual.ensures
+    (no_chain_scan c.args.s.now c.in_err-kind.ensures.value)
 
 pub returns-then-begins_filter-clause-kind : goal.returns-then-begins_filter-clause-kind
 returns-then-begins_filter-clause-kind c = c.filtered.ensures.kind c.args.s.now c.in_ok-kind.ensures.kind
@@ -20,8 +21,10 @@ returns-then-begins_filter-clause-value c = c.filtered.ensures.value c.args.s.no
 
 pub returns-else-begins_filter-clause-kind : goal.returns-else-begins_filter-clause-kind
 returns-else-begins_filter-clause-kind c =
-    unfiltered_is c.args.s.now _ _ c.in_ok-kind.ensures.kind (no_filter_here c.in_ok-kind.rest.now (sym c.begins_filter.ensures ∙ c.if-begins_filter.false))
+    unfiltered_is c.args.s.now _ _ c.in_ok-kind.ensures.kind
+    (no_filter_here c.in_ok-kind.rest.now (sym c.begins_filter.ensures ∙ c.if-begins_filter.false))
 
 pub returns-else-begins_filter-clause-value : goal.returns-else-begins_filter-clause-value
 returns-else-begins_filter-clause-value c =
-    chain_end c.args.s.now _ _ c.in_ok-kind.ensures.value (no_filter_here c.in_ok-kind.rest.now (sym c.begins_filter.ensures ∙ c.if-begins_filter.false))
+    chain_end c.args.s.now _ _ c.in_ok-kind.ensures.value
+    (no_filter_here c.in_ok-kind.rest.now (sym c.begins_filter.ensures ∙ c.if-begins_filter.false))

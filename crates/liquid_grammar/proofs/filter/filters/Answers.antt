@@ -16,7 +16,8 @@ filters-preserved c =
       search rules,
       record {
         same = kept.same
-            ∙ ap (adds (faults_of c.filters.fault)) (repeated_scan_more (exact-following 124 exact-filter) (shrinks-following 124 exact-filter) filter_fault _ _ (faults_of c.in-Some.found) c.in-Some.ensures.value)
+            ∙ ap (adds (faults_of c.filters.fault)) (repeated_scan_more (exact-following 124 exact-filter)
+            (shrinks-following 124 exact-filter) filter_fault _ _ (faults_of c.in-Some.found) c.in-Some.ensures.value)
             ∙ adds_adds (faults_of c.filters.fault) (faults_of c.in-Some.found) after
             ∙ ap (λ (f : Option Fault). adds f after) (fault_added c.filters.fault c.in-Some.found _ _ c.or-fault.ensures refl);
         within = omega (arith, shorter, kept.within);
@@ -26,4 +27,5 @@ filters-preserved c =
 pub returns-clause-value : goal.returns-clause-value
 returns-clause-value c =
     let kept = c.filters.invariant.1 in
-    sym (kept.same ∙ ap (adds (faults_of c.filters.fault)) (repeated_scan_end (following 124 filter) filter_fault c.filters.rest.now c.in_default.ensures.value) ∙ adds_found _ _)
+    sym (kept.same ∙ ap (adds (faults_of c.filters.fault))
+    (repeated_scan_end (following 124 filter) filter_fault c.filters.rest.now c.in_default.ensures.value) ∙ adds_found _ _)

@@ -11,7 +11,8 @@ abbrev pub invariant-filters : goal.invariant-filters
 invariant-filters l =
     shadow (Utf8 l.rest)
     × record {
-      same : scan (first_fault filter_fault) (repeated (following 124 filter) l.s) ≡ adds (faults_of l.fault) (scan (first_fault filter_fault) (repeated (following 124 filter) l.rest));
+      same : scan (first_fault filter_fault) (repeated (following 124 filter) l.s) ≡ adds (faults_of l.fault)
+          (scan (first_fault filter_fault) (repeated (following 124 filter) l.rest));
       within : length l.rest ≤ length l.s;
     }
 

@@ -16,7 +16,9 @@ arguments-preserved c =
       search rules,
       record {
         same = kept.same
-            ∙ ap (adds (faults_of c.arguments.fault)) (repeated_scan_more (exact-following 44 exact-argument) (shrinks-following 44 exact-argument) argument_fault _ _ (faults_of c.in-Some.found) c.in-Some.ensures.value)
+            ∙ ap (adds (faults_of c.arguments.fault))
+            (repeated_scan_more (exact-following 44 exact-argument) (shrinks-following 44 exact-argument) argument_fault _ _
+            (faults_of c.in-Some.found) c.in-Some.ensures.value)
             ∙ adds_adds (faults_of c.arguments.fault) (faults_of c.in-Some.found) after
             ∙ ap (λ (f : Option Fault). adds f after) (fault_added c.arguments.fault c.in-Some.found _ _ c.or-fault.ensures refl);
         within = omega (arith, shorter, kept.within);
@@ -26,4 +28,5 @@ arguments-preserved c =
 pub returns-clause-value : goal.returns-clause-value
 returns-clause-value c =
     let kept = c.arguments.invariant.1 in
-    sym (kept.same ∙ ap (adds (faults_of c.arguments.fault)) (repeated_scan_end (following 44 argument) argument_fault c.arguments.rest.now c.in_default.ensures.value) ∙ adds_found _ _)
+    sym (kept.same ∙ ap (adds (faults_of c.arguments.fault))
+    (repeated_scan_end (following 44 argument) argument_fault c.arguments.rest.now c.in_default.ensures.value) ∙ adds_found _ _)

@@ -11,7 +11,8 @@ abbrev pub invariant-arguments : goal.invariant-arguments
 invariant-arguments l =
     shadow (Utf8 l.rest)
     × record {
-      same : scan (first_fault argument_fault) (repeated (following 44 argument) l.s) ≡ adds (faults_of l.fault) (scan (first_fault argument_fault) (repeated (following 44 argument) l.rest));
+      same : scan (first_fault argument_fault) (repeated (following 44 argument) l.s) ≡ adds (faults_of l.fault)
+          (scan (first_fault argument_fault) (repeated (following 44 argument) l.rest));
       within : length l.rest ≤ length l.s;
     }
 

@@ -1,6 +1,17 @@
 use Rattle.liquid_grammar.proofs.MatchLemmas.{single}
 use Rattle.liquid_grammar.proofs.GrammarExact.{exact-white, exact-identifier}
-use Rattle.liquid_grammar.proofs.TokenExact.{exact-literal, exact-value, exact-index, exact-close_bracket, exact-argument, exact-filter, exact-chain, exact-token, exact-full_expression, exact-tag}
+use Rattle.liquid_grammar.proofs.TokenExact.{
+  exact-literal,
+  exact-value,
+  exact-index,
+  exact-close_bracket,
+  exact-argument,
+  exact-filter,
+  exact-chain,
+  exact-token,
+  exact-full_expression,
+  exact-tag,
+}
 use Rattle.liquid_grammar.proofs.laws.one_match.Goals as goal
 
 pub returns-clause-identifiers : goal.returns-clause-identifiers

@@ -7,7 +7,8 @@ use Rattle.liquid_grammar.proofs.literal.longest_number.Goals as goal
 
 pub before-requires-clause-ends : goal.before-requires-clause-ends
 before-requires-clause-ends c =
-    before_end _ _ (end_join _ c.in_ok-text.end.now _ (found_end exact-whole _ _ c.in_ok-text.text.now c.in_ok-text.ensures.value) (leaves_end exact-fraction _ _ c.in-Some.ensures.value))
+    before_end _ _ (end_join _ c.in_ok-text.end.now _ (found_end exact-whole _ _ c.in_ok-text.text.now c.in_ok-text.ensures.value)
+    (leaves_end exact-fraction _ _ c.in-Some.ensures.value))
 
 pub returns-in_err-text-clause-value : goal.returns-in_err-text-clause-value
 returns-in_err-text-clause-value c =
@@ -15,7 +16,9 @@ returns-in_err-text-clause-value c =
 
 pub returns-in-Some-clause-value : goal.returns-in-Some-clause-value
 returns-in-Some-clause-value c =
-    with_fraction c.args.s.now c.in_ok-text.text.now c.in_ok-text.end.now _ _ c.in_ok-text.ensures.value c.in-Some.ensures.value c.before-in-Some.ensures
+    with_fraction c.args.s.now c.in_ok-text.text.now c.in_ok-text.end.now _ _ c.in_ok-text.ensures.value c.in-Some.ensures.value
+    c.before-in-Some.ensures
 
 pub returns-in-None-clause-value : goal.returns-in-None-clause-value
-returns-in-None-clause-value c = without_fraction c.args.s.now c.in_ok-text.text.now c.in_ok-text.end.now c.in_ok-text.ensures.value c.in-None.ensures.value
+returns-in-None-clause-value c = without_fraction c.args.s.now c.in_ok-text.text.now c.in_ok-text.end.now c.in_ok-text.ensures.value
+    c.in-None.ensures.value

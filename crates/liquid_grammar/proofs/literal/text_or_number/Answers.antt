@@ -6,7 +6,8 @@ use Rattle.liquid_grammar.proofs.literal.text_or_number.Goals as goal
 pub returns-in_err-text-clause-value : goal.returns-in_err-text-clause-value
 returns-in_err-text-clause-value c =
     let first = first_byte c.args.s.now _ _ c.as_bytes.ensures.value c.byte_at-first.ensures in
-    ap (option_map (λ p. (literal_of p.0, p.1.now))) c.from_residual.ensures ∙ ap as_text c.in_err-text.ensures.value ∙ quoted_here c.args.s.now _ first c.if-first-eq34.either
+    ap (option_map (λ p. (literal_of p.0, p.1.now))) c.from_residual.ensures ∙ ap as_text c.in_err-text.ensures.value
+    ∙ quoted_here c.args.s.now _ first c.if-first-eq34.either
 
 pub returns-in_ok-text-clause-value : goal.returns-in_ok-text-clause-value
 returns-in_ok-text-clause-value c =

@@ -6,15 +6,20 @@ use Rattle.liquid_grammar.proofs.parts.chain_step.Goals as goal
 
 pub returns-in_err-name-in-Some-clause-only : goal.returns-in_err-name-in-Some-clause-only
 returns-in_err-name-in-Some-clause-only c rest filters m =
-    returned_none _ _ c.from_residual.ensures (nameless c.args.s.now _ _ _ rest filters c.skip_white-here.ensures.value c.in-Some.ensures.value c.skip_white-place.ensures.value c.in_err-name-in-Some.ensures.value m)
+    returned_none _ _ c.from_residual.ensures
+    (nameless c.args.s.now _ _ _ rest filters c.skip_white-here.ensures.value c.in-Some.ensures.value c.skip_white-place.ensures.value
+    c.in_err-name-in-Some.ensures.value m)
 
 pub returns-in_err-closer-in-None-clause-only : goal.returns-in_err-closer-in-None-clause-only
 returns-in_err-closer-in-None-clause-only c rest filters m =
-    returned_none _ _ c.from_residual-in_err-closer-in-None.ensures (unclosed c.args.s.now _ rest filters c.skip_white-here.ensures.value c.in-None.ensures.value c.in_err-closer-in-None.ensures.value m)
+    returned_none _ _ c.from_residual-in_err-closer-in-None.ensures
+    (unclosed c.args.s.now _ rest filters c.skip_white-here.ensures.value c.in-None.ensures.value
+    c.in_err-closer-in-None.ensures.value m)
 
 pub returns-in_ok-name-in-Some-clause-only : goal.returns-in_ok-name-in-Some-clause-only
 returns-in_ok-name-in-Some-clause-only c rest filters m =
-    filter_next _ c.args.s.now _ _ rest filters c.skip_white-here.ensures.value c.in-Some.ensures.value c.skip_white-place.ensures.value c.in_ok-name-in-Some.ensures.value m
+    filter_next _ c.args.s.now _ _ rest filters c.skip_white-here.ensures.value c.in-Some.ensures.value c.skip_white-place.ensures.value
+    c.in_ok-name-in-Some.ensures.value m
 
 pub returns-in_ok-closer-in-None-clause-only : goal.returns-in_ok-closer-in-None-clause-only
 returns-in_ok-closer-in-None-clause-only c rest filters m = record {

@@ -1,7 +1,15 @@
 use Rattle.std.proofs.Common.{sym, ◌∙◌}
 use Rattle.liquid_grammar.proofs.PartLemmas.{returned_none}
 use Rattle.liquid_grammar.proofs.TokenPartLemmas.{range_token, chain_token, symbol_token, symbol_ends, no_token}
-use Rattle.liquid_grammar.proofs.FirstByteLemmas.{first_byte, parenthesis_is_no_value, no_range_here, no_chain_here, no_symbol_at_value, no_symbol_at_parenthesis, no_rest}
+use Rattle.liquid_grammar.proofs.FirstByteLemmas.{
+  first_byte,
+  parenthesis_is_no_value,
+  no_range_here,
+  no_chain_here,
+  no_symbol_at_value,
+  no_symbol_at_parenthesis,
+  no_rest,
+}
 use Rattle.liquid_grammar.proofs.parts.token_parts.Goals as goal
 
 pub returns-in_err-start-clause-value : goal.returns-in_err-start-clause-value
@@ -21,7 +29,8 @@ pub returns-in_err-kind-clause-value : goal.returns-in_err-kind-clause-value
 returns-in_err-kind-clause-value c =
     let first = first_byte c.args.place.now _ _ c.as_bytes.ensures.value c.byte_at-first.ensures in
     let rangeless = no_range_here c.args.place.now _ first c.if-first-eq40.false in
-    let symbolless = no_rest c.args.place.now (no_symbol_at_value c.args.place.now _ first (sym c.begins_value.ensures ∙ c.if-begins_value.true)) in
+    let symbolless = no_rest c.args.place.now
+    (no_symbol_at_value c.args.place.now _ first (sym c.begins_value.ensures ∙ c.if-begins_value.true)) in
     returned_none _ _ c.from_residual-in_err-kind.ensures (no_token c.args.place.now rangeless c.in_err-kind.ensures.value symbolless)
 
 pub returns-in_ok-kind-clause-value : goal.returns-in_ok-kind-clause-value

@@ -5,4 +5,5 @@ pub returns-clause-found : goal.returns-clause-found
 returns-clause-found c = head_found c.args.s.now c.read_head.result c.read_head.ensures.literal c.read_head.ensures.name
 
 pub returns-clause-only : goal.returns-clause-only
-returns-clause-only c = head_only c.args.s.now c.read_head.result (head_found c.args.s.now c.read_head.result c.read_head.ensures.literal c.read_head.ensures.name)
+returns-clause-only c = head_only c.args.s.now c.read_head.result
+    (head_found c.args.s.now c.read_head.result c.read_head.ensures.literal c.read_head.ensures.name)

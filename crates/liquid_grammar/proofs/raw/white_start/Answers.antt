@@ -6,14 +6,16 @@ pub white-preserved : goal.white-preserved
 white-preserved c =
     let kept = c.white.invariant in
     record {
-      same = kept.same ∙ white_start_less c.args.bytes.now c.args.from c.white.start c.white-test.true (sym c.is_white.ensures ∙ c.if-is_white.true);
+      same = kept.same ∙ white_start_less c.args.bytes.now c.args.from c.white.start c.white-test.true
+          (sym c.is_white.ensures ∙ c.if-is_white.true);
       low = omega (arith, c.white-test.true);
       high = omega (arith, kept.high);
     }
 
 pub returns-else-is_white-clause-start : goal.returns-else-is_white-clause-start
 returns-else-is_white-clause-start c =
-    sym (c.white.invariant.same ∙ white_start_here c.args.bytes.now c.args.from c.white.start c.white-test.true (sym c.is_white.ensures ∙ c.if-is_white.false))
+    sym (c.white.invariant.same ∙ white_start_here c.args.bytes.now c.args.from c.white.start c.white-test.true
+    (sym c.is_white.ensures ∙ c.if-is_white.false))
 
 pub returns-after-white-clause-start : goal.returns-after-white-clause-start
 returns-after-white-clause-start c =

@@ -17,7 +17,8 @@ tokens-preserved c =
       search rules,
       record {
         same = kept.same
-            ∙ ap (adds (faults_of c.tokens.fault)) (repeated_scan_more exact-next_token shrinks-next_token token_fault _ _ (faults_of c.in-Some.found) c.in-Some.ensures.value)
+            ∙ ap (adds (faults_of c.tokens.fault)) (repeated_scan_more exact-next_token shrinks-next_token token_fault _ _
+            (faults_of c.in-Some.found) c.in-Some.ensures.value)
             ∙ adds_adds (faults_of c.tokens.fault) (faults_of c.in-Some.found) after
             ∙ ap (λ (f : Option Fault). adds f after) (fault_added c.tokens.fault c.in-Some.found _ _ c.or-fault.ensures refl);
         within = omega (arith, shorter, kept.within);
@@ -27,4 +28,5 @@ tokens-preserved c =
 pub returns-clause-value : goal.returns-clause-value
 returns-clause-value c =
     let kept = c.tokens.invariant.1 in
-    sym (kept.same ∙ ap (adds (faults_of c.tokens.fault)) (repeated_scan_end (right white token) token_fault c.tokens.rest.now c.in_default.ensures.value) ∙ adds_found _ _)
+    sym (kept.same ∙ ap (adds (faults_of c.tokens.fault))
+    (repeated_scan_end (right white token) token_fault c.tokens.rest.now c.in_default.ensures.value) ∙ adds_found _ _)

@@ -12,7 +12,8 @@ abbrev pub invariant-tokens : goal.invariant-tokens
 invariant-tokens l =
     shadow (Utf8 l.rest)
     × record {
-      same : scan (first_fault token_fault) (repeated (right white token) l.s) ≡ adds (faults_of l.fault) (scan (first_fault token_fault) (repeated (right white token) l.rest));
+      same : scan (first_fault token_fault) (repeated (right white token) l.s) ≡ adds (faults_of l.fault)
+          (scan (first_fault token_fault) (repeated (right white token) l.rest));
       within : length l.rest ≤ length l.s;
     }
 

@@ -11,7 +11,8 @@ abbrev pub invariant-indexes : goal.invariant-indexes
 invariant-indexes l =
     shadow (Utf8 l.rest)
     × record {
-      same : scan (λ x. indexes_fault 0 (gather x)) (indexes l.s) ≡ adds (faults_of l.fault) (scan (λ x. indexes_fault 0 (gather x)) (indexes l.rest));
+      same : scan (λ x. indexes_fault 0 (gather x)) (indexes l.s) ≡ adds (faults_of l.fault)
+          (scan (λ x. indexes_fault 0 (gather x)) (indexes l.rest));
       within : length l.rest ≤ length l.s;
     }
 

@@ -4,7 +4,19 @@ use Rattle.std.specs.Vec.Iter.{into_iter_items}
 use Rattle.serde_json.specs.View.{items_view as json_items, members_view as json_members, view as json_view}
 use Rattle.liquid_value.specs.meaning.View.{view, entry_view}
 use Rattle.liquid_json.specs.meaning.Given.{items_given, members_given}
-use Rattle.liquid_json.proofs.Given.{no_item_yet, no_member_yet, item_given, member_given, item_refusal, member_refusal, items_done, members_done, refuses, nothing_left, keys_more}
+use Rattle.liquid_json.proofs.Given.{
+  no_item_yet,
+  no_member_yet,
+  item_given,
+  member_given,
+  item_refusal,
+  member_refusal,
+  items_done,
+  members_done,
+  refuses,
+  nothing_left,
+  keys_more,
+}
 use Rattle.liquid_json.proofs.convert.+convert.Goals as goal
 
 pub into_items-loop-item-init : goal.into_items-loop-item-init

@@ -3,7 +3,16 @@ use Rattle.json.specs.Token.{Token}
 use Rattle.json.specs.Json as json
 use Rattle.json.specs.Json.{parse_map, after_end_array, read_key, value}
 use Rattle.json.specs.Reads.{token_of}
-use Rattle.json.proofs.Grammar.{value_is, value-begin_array, value-begin_object, read_key-shorter, items_end, items_more, members_end, members_more}
+use Rattle.json.proofs.Grammar.{
+  value_is,
+  value-begin_array,
+  value-begin_object,
+  read_key-shorter,
+  items_end,
+  items_more,
+  members_end,
+  members_more,
+}
 use Rattle.serde_json.specs.Data as read
 use Rattle.serde_json.specs.Find.{of_integer}
 use Rattle.liquid_scalar.specs.meaning.Scalar.{text}
@@ -12,7 +21,25 @@ use Rattle.liquid_value.specs.meaning.View.{view, members_view}
 use Rattle.liquid_value.specs.declared.value.Value.{the_lemmas}
 use Rattle.liquid_value.proofs.Entries.{members_view-insert_entry}
 use Rattle.liquid_value.proofs.Listed.{view-Array}
-use Rattle.liquid_json.proofs.TokensRead.{following, after_none, after_more, none_made, one_more_made, all_made, put_after, put_after_none, put_after_more, none_put, one_more_put, all_put, put_made, whole_given, view_nil, view_scalar, view_object}
+use Rattle.liquid_json.proofs.TokensRead.{
+  following,
+  after_none,
+  after_more,
+  none_made,
+  one_more_made,
+  all_made,
+  put_after,
+  put_after_none,
+  put_after_more,
+  none_put,
+  one_more_put,
+  all_put,
+  put_made,
+  whole_given,
+  view_nil,
+  view_scalar,
+  view_object,
+}
 use Rattle.liquid_json.proofs.read.+read.Goals as goal
 
 pub read_value-returns-in_ok-from_str-in-String-clause-read : goal.read_value-returns-in_ok-from_str-in-String-clause-read
@@ -54,7 +81,8 @@ read_value-returns-in-Some-clause-read t c =
       ),
     )
 
-pub read_value-returns-in_ok-value_of_array-in-BeginArray-clause-read : goal.read_value-returns-in_ok-value_of_array-in-BeginArray-clause-read
+pub read_value-returns-in_ok-value_of_array-in-BeginArray-clause-read :
+    goal.read_value-returns-in_ok-value_of_array-in-BeginArray-clause-read
 read_value-returns-in_ok-value_of_array-in-BeginArray-clause-read t c =
     let first : c.args.reader.now ≡ token_of c.in_ok-token.token ∷ c.next.new.self = grind arith in
     let opened =

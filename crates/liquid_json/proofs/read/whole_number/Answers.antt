@@ -1,4 +1,22 @@
-use Rattle.std.proofs.Common.{◌≡◌, drop, get_or, true, false, ◌==◌, Option, None, Some, ℤ, sym, ap, ◌∙◌, arith, take_all, length-drop, subst}
+use Rattle.std.proofs.Common.{
+  ◌≡◌,
+  drop,
+  get_or,
+  true,
+  false,
+  ◌==◌,
+  Option,
+  None,
+  Some,
+  ℤ,
+  sym,
+  ap,
+  ◌∙◌,
+  arith,
+  take_all,
+  length-drop,
+  subst,
+}
 use Rattle.std.specs.Prelude.{IfSome}
 use Rattle.fast_float.specs.Text.{scan}
 use Rattle.serde_json.specs.Find.{of_integer}

@@ -11,7 +11,16 @@ use Rattle.liquid_program.specs.meaning.Gathered.{WithText, WithFiles, path_in}
 use Rattle.liquid_program.specs.steps.Steps.{Brings, Collects, Stops}
 use Rattle.liquid_program.proofs.GatheredLemmas.{Files}
 use Rattle.liquid_program.specs.meaning.Requests.{file_steps, text_trouble}
-use Rattle.liquid_program.proofs.StepsLemmas.{CameSoFar, came_all, came_memory, came_more, came_stops, nothing_came, text_known, was_requested}
+use Rattle.liquid_program.proofs.StepsLemmas.{
+  CameSoFar,
+  came_all,
+  came_memory,
+  came_more,
+  came_stops,
+  nothing_came,
+  text_known,
+  was_requested,
+}
 use Rattle.liquid_program.proofs.FolderLemmas.{ReadSoFar, nothing_read, read_more, read_stops, read_memory, read_all}
 use Rattle.liquid_program.proofs.gather.texts_of.Goals as goal
 

@@ -11,7 +11,15 @@ use Rattle.liquid_program.specs.meaning.PagesCommand.{asked_pages}
 use Rattle.liquid_program.proofs.GatheredLemmas.{Files, Folders}
 use Rattle.liquid_program.proofs.PagesLemmas.{each_written, failed_all, no_globals_object, no_globals_text, no_pages_partials, same_known}
 use Rattle.liquid_program.specs.meaning.Requests.{Follows, pages_steps}
-use Rattle.liquid_program.proofs.StepsLemmas.{globals_known, globals_refused, globals_unread, pages_followed, pages_partials_stop, pages_stop, text_known}
+use Rattle.liquid_program.proofs.StepsLemmas.{
+  globals_known,
+  globals_refused,
+  globals_unread,
+  pages_followed,
+  pages_partials_stop,
+  pages_stop,
+  text_known,
+}
 use Rattle.liquid_program.proofs.pages.write_all.Goals as goal
 
 pub returns-in_err-json-clause-writes : goal.returns-in_err-json-clause-writes

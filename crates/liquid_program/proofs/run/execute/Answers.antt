@@ -9,7 +9,16 @@ use Rattle.liquid_program.proofs.GatheredLemmas.{Files, Folders}
 use Rattle.liquid_program.proofs.ExecutedLemmas.{no_template, no_json, no_globals, no_partials, executed, failed}
 use Rattle.liquid_program.specs.declared.fault.Fault.{Fault}
 use Rattle.liquid_program.specs.meaning.Requests.{Follows, command_steps}
-use Rattle.liquid_program.proofs.StepsLemmas.{all_followed, globals_known, globals_refused, globals_stop, globals_unread, partials_stop, template_stops, text_known}
+use Rattle.liquid_program.proofs.StepsLemmas.{
+  all_followed,
+  globals_known,
+  globals_refused,
+  globals_stop,
+  globals_unread,
+  partials_stop,
+  template_stops,
+  text_known,
+}
 use Rattle.liquid_program.proofs.run.execute.Goals as goal
 
 pub returns-in_err-template-clause-executes : goal.returns-in_err-template-clause-executes

@@ -1,6 +1,21 @@
 use Rattle.std.proofs.Common.{Ok, rules, refl, ap, ◌∙◌, option_map, string_bytes}
 use Rattle.liquid_plugins.specs.meaning.TurnOf.{turn_of}
-use Rattle.liquid_template.proofs.Goings.{asked_true, asked_false, owed_above, ends_stopped, ends_refused, ends_over, text_ends, text_goes, body_opens, body_ends, capture_opens, capture_ends, partial_opens, partial_ends}
+use Rattle.liquid_template.proofs.Goings.{
+  asked_true,
+  asked_false,
+  owed_above,
+  ends_stopped,
+  ends_refused,
+  ends_over,
+  text_ends,
+  text_goes,
+  body_opens,
+  body_ends,
+  capture_opens,
+  capture_ends,
+  partial_opens,
+  partial_ends,
+}
 use Rattle.liquid_template.proofs.turn.take_turn.Goals as goal
 
 pub returns-then-not-pass_turn-clause-turned : goal.returns-then-not-pass_turn-clause-turned

@@ -8,12 +8,15 @@ use Rattle.liquid_value.proofs.Copies.{copied_members, copied_order}
 use Rattle.liquid_value.proofs.clone.+copy.Goals as goal
 
 pub copy_object-object_in_order-requires : goal.copy_object-object_in_order-requires
-copy_object-object_in_order-requires t c = copied_order c.in_ok-copy_entries-in-Some.field-0.items c.args.members.now.entries c.in_ok-copy_entries-in-Some.ensures c.iter.ensures.ordered
+copy_object-object_in_order-requires t c =
+    copied_order c.in_ok-copy_entries-in-Some.field-0.items c.args.members.now.entries c.in_ok-copy_entries-in-Some.ensures
+    c.iter.ensures.ordered
 
 pub copy_object-returns-in_ok-copy_entries-in-Some : goal.copy_object-returns-in_ok-copy_entries-in-Some
 copy_object-returns-in_ok-copy_entries-in-Some t c =
     IfOk-weaker c.object_in_order.result (λ m. members_view m.entries ≡ members_view c.in_ok-copy_entries-in-Some.field-0.items) _
-    (λ m same. same ∙ copied_members c.in_ok-copy_entries-in-Some.field-0.items c.args.members.now.entries c.in_ok-copy_entries-in-Some.ensures)
+    (λ m same. same ∙ copied_members c.in_ok-copy_entries-in-Some.field-0.items c.args.members.now.entries
+    c.in_ok-copy_entries-in-Some.ensures)
     c.object_in_order.ensures
 
 pub copy_few-loop-key-preserved : goal.copy_few-loop-key-preserved
@@ -27,5 +30,6 @@ copy_few-loop-key-preserved t c =
     let named : string_bytes c.in_ok-name.name ≡ string_bytes e.0 = c.in_ok-name.ensures.cases in (
       done ++ e ∷ [],
       all ∙ sym (append_assoc done (e ∷ []) left),
-      ap members_view c.in_ok-insert.ensures.entries ∙ members_view-insert_entry l.copies.entries c.in_ok-name.name c.in_ok-copy.field-0 ∙ rw (named, c.in_ok-copy.ensures, l.invariant.2) last,
+      ap members_view c.in_ok-insert.ensures.entries ∙ members_view-insert_entry l.copies.entries c.in_ok-name.name c.in_ok-copy.field-0
+          ∙ rw (named, c.in_ok-copy.ensures, l.invariant.2) last,
     )

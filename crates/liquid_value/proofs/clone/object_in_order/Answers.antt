@@ -5,4 +5,5 @@ use Rattle.liquid_value.proofs.Collected.{collected}
 use Rattle.liquid_value.proofs.clone.object_in_order.Goals as goal
 
 pub returns : goal.returns
-returns c = IfOk-weaker c.collect.result (IsFromIterResult string_cmp c.args.entries.items) _ (λ m made. collected c.args.entries.items m c.requires made) (search rules)
+returns c = IfOk-weaker c.collect.result (IsFromIterResult string_cmp c.args.entries.items) _
+    (λ m made. collected c.args.entries.items m c.requires made) (search rules)

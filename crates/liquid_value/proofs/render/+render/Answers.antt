@@ -18,7 +18,12 @@ write_items-loop-item-preserved g t c =
     )
 
 pub write_members-loop-key-init : goal.write_members-loop-key-init
-write_members-loop-key-init g t c = ([], ap (λ es. render_members (members_view es)) (sym (c.into_iter-key-iterator.ensures.into_iter_gives ∙ c.iter-key-items.ensures.rest)), λ p. search rules)
+write_members-loop-key-init g t c = (
+  [],
+  ap (λ es. render_members (members_view es))
+      (sym (c.into_iter-key-iterator.ensures.into_iter_gives ∙ c.iter-key-items.ensures.rest)),
+  λ p. search rules,
+)
 
 pub write_members-loop-key-preserved : goal.write_members-loop-key-preserved
 write_members-loop-key-preserved g t c =

@@ -13,6 +13,7 @@ loop-item-preserved g c =
     let l = c.loop-item in
     let v = c.item-item.result in (
       l.invariant.0 ++ (render (view v) ++ codes ", "),
-      items_turn listed_items (λ t. render t ++ codes ", ") (λ t ts. refl) _ _ _ l.item-index v c.loop-item-test.true c.item-item.is l.invariant.1,
+      items_turn listed_items (λ t. render t ++ codes ", ")
+          (λ t ts. refl) _ _ _ l.item-index v c.loop-item-test.true c.item-item.is l.invariant.1,
       λ p. has_written_append _ _ _ _ _ _ (l.invariant.2 p) (search rules),
     )

@@ -6,7 +6,12 @@ use Rattle.liquid_value.specs.meaning.View.{view, members_view}
 use Rattle.liquid_value.proofs.render.list_members.Goals as goal
 
 pub loop-key-init : goal.loop-key-init
-loop-key-init g c = ([], ap (λ es. listed_members (members_view es)) (sym (c.into_iter-key-iterator.ensures.into_iter_gives ∙ c.iter-key-items.ensures.rest)), λ p. search rules)
+loop-key-init g c = (
+  [],
+  ap (λ es. listed_members (members_view es))
+      (sym (c.into_iter-key-iterator.ensures.into_iter_gives ∙ c.iter-key-items.ensures.rest)),
+  λ p. search rules,
+)
 
 pub loop-key-preserved : goal.loop-key-preserved
 loop-key-preserved g c =

@@ -12,7 +12,11 @@ returns c =
     let whole = c.chars-characters.ensures.rest in
     elim c.match-next.branch [
       | in-Some+in-None+in_ok-push_lowercase w ↦
-          let first = rw (no_more _ w.loop-character.invariant.no_gap w.in-None.ensures.steps.0, w.into_iter-character-iterator.ensures.into_iter_gives, w.to_uppercase-character-items.ensures.value) at w.loop-character.invariant.whole in
+          let first = rw (
+            no_more _ w.loop-character.invariant.no_gap w.in-None.ensures.steps.0,
+            w.into_iter-character-iterator.ensures.into_iter_gives,
+            w.to_uppercase-character-items.ensures.value,
+          ) at w.loop-character.invariant.whole in
           rw w.capitalized-is (
           w.in_ok-push_lowercase.ensures
           ∙ ap (λ l. l ++ lowercased w.as_str.result.now) (sym (append-nil _) ∙ first)

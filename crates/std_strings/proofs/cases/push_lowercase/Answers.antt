@@ -9,7 +9,11 @@ loop-character-preserved c =
     let held = c.loop-character.invariant in
     let parts = c.in-Some.ensures.steps.0 in
     let inner = c.loop-lower.invariant in
-    let done = rw (no_more _ inner.no_gap c.in-None-lower.ensures.steps.0, c.into_iter-lower-iterator.ensures.into_iter_gives, c.to_lowercase-lower-items.ensures.value) at inner.whole in
+    let done = rw (
+      no_more _ inner.no_gap c.in-None-lower.ensures.steps.0,
+      c.into_iter-lower-iterator.ensures.into_iter_gives,
+      c.to_lowercase-lower-items.ensures.value,
+    ) at inner.whole in
     record {
       text = IsUtf8-past_char _ _ c.in-Some.character held.text parts;
       whole = written_more _ _ _ _ _ _ done (lowercased_step _ _ c.in-Some.character held.text parts) held.whole;

@@ -15,5 +15,6 @@ invariant-loop-character l = record {
 abbrev pub invariant-loop-lower : goal.invariant-loop-lower
 invariant-loop-lower l = record {
   no_gap : NoGap (case_mapping_first l.lower-iterator) (case_mapping_second l.lower-iterator) (case_mapping_third l.lower-iterator);
-  whole : string_bytes l.to ++ encode_utf8_all (case_mapping_chars l.lower-iterator) ≡ string_bytes l.initial.to ++ encode_utf8_all (case_mapping_chars l.initial.lower-iterator);
+  whole : string_bytes l.to ++ encode_utf8_all (case_mapping_chars l.lower-iterator) ≡ string_bytes l.initial.to
+      ++ encode_utf8_all (case_mapping_chars l.initial.lower-iterator);
 }

@@ -18,13 +18,16 @@ loop-at-preserved c =
     elim c.match-entity.branch [
       | in-Some+in_ok-push_str+in_ok-push_str-2 w ↦ rw (w.kept-is, w.escaped-is) (record {
         order = omega arith;
-        cut = IsCharBoundary-after_ascii c.args.text.now c.loop-at.at c.utf8.text within (entity_is_ascii _ w.in-Some.entity.now (sym (rw c.as_bytes-byte-items.ensures.value at w.in-Some.ensures)));
+        cut = IsCharBoundary-after_ascii c.args.text.now c.loop-at.at c.utf8.text within
+            (entity_is_ascii _ w.in-Some.entity.now (sym (rw c.as_bytes-byte-items.ensures.value at w.in-Some.ensures)));
         whole = rw (w.in_ok-push_str-2.ensures.bytes, w.in_ok-push_str.ensures.bytes, w.range.ensures.value)
-            (entity_more c.args.text.now _ c.loop-at.kept c.loop-at.at held.order within held.whole w.in-Some.entity.now (rw c.as_bytes-byte-items.ensures.value at w.in-Some.ensures));
+            (entity_more c.args.text.now _ c.loop-at.kept c.loop-at.at held.order within held.whole w.in-Some.entity.now
+            (rw c.as_bytes-byte-items.ensures.value at w.in-Some.ensures));
       })
       | in_default w ↦ rw (w.kept-is, w.escaped-is) (record {
         order = omega arith;
         cut = held.cut;
-        whole = kept_more c.args.text.now _ c.loop-at.kept c.loop-at.at held.order within held.whole (rw c.as_bytes-byte-items.ensures.value at w.in_default.ensures);
+        whole = kept_more c.args.text.now _ c.loop-at.kept c.loop-at.at held.order within held.whole
+            (rw c.as_bytes-byte-items.ensures.value at w.in_default.ensures);
       })
     ]

@@ -13,11 +13,13 @@ loop-at-preserved c =
     elim c.if-not-is_empty.branch [
       | then-not-is_empty w ↦ rw w.kept-is (record {
         order = omega arith;
-        same = all_kept (λ p. p.now) c.deref-piece-items.result.now c.loop-at.at c.loop-at.kept _ c.loop-at-test.true (eqb-false _ _ (sym c.is_empty.ensures ∙ w.if-not-is_empty.true));
+        same = all_kept (λ p. p.now) c.deref-piece-items.result.now c.loop-at.at c.loop-at.kept _ c.loop-at-test.true
+            (eqb-false _ _ (sym c.is_empty.ensures ∙ w.if-not-is_empty.true));
       })
       | else-not-is_empty w ↦ rw w.kept-is (record {
         order = omega arith;
-        same = still_kept (λ p. p.now) c.deref-piece-items.result.now c.loop-at.at c.loop-at.kept _ c.loop-at-test.true (eqb-true _ _ (sym c.is_empty.ensures ∙ w.if-not-is_empty.false)) held.same;
+        same = still_kept (λ p. p.now) c.deref-piece-items.result.now c.loop-at.at c.loop-at.kept _ c.loop-at-test.true
+            (eqb-true _ _ (sym c.is_empty.ensures ∙ w.if-not-is_empty.false)) held.same;
       })
     ]
 
@@ -25,7 +27,8 @@ pub returns : goal.returns
 returns c =
     let held = c.loop-at.invariant in
     let items = c.deref-piece-items.result.now in
-    let short : length (map (λ p. p.now) items) ≤ c.loop-at.at = subst (λ n. n ≤ c.loop-at.at) (sym (length-map items (λ p. p.now))) c.loop-at-test.false in
+    let short : length (map (λ p. p.now) items) ≤ c.loop-at.at = subst (λ n. n ≤ c.loop-at.at)
+    (sym (length-map items (λ p. p.now))) c.loop-at-test.false in
     rw (sym c.deref-piece-items.ensures.value) (
     ap (map (λ p. p.now)) (rw (sym c.deref-piece-items.ensures.value) at c.truncate.ensures.items)
     ∙ sym (take-map (λ p. p.now) c.loop-at.kept items)

@@ -9,7 +9,8 @@ use Rattle.std_strings.proofs.parts.push_characters.Goals as goal
 pub split_at-requires : goal.split_at-requires
 split_at-requires c =
     let held = c.loop-character.invariant in
-    (cuts_first c.loop-character.rest.now _ c.in-Some.character c.len_utf8.result held.is_text (held.same ∙ c.in-Some.ensures.steps.0) c.len_utf8.ensures.len).cut
+    (cuts_first c.loop-character.rest.now _ c.in-Some.character c.len_utf8.result held.is_text
+    (held.same ∙ c.in-Some.ensures.steps.0) c.len_utf8.ensures.len).cut
 
 pub loop-character-preserved : goal.loop-character-preserved
 loop-character-preserved c =
@@ -20,7 +21,8 @@ loop-character-preserved c =
     rw others (record {
       is_text = IsUtf8-past_char _ _ c.in-Some.character held.is_text e;
       same = refl;
-      whole = pushed (λ p. p.now) c.loop-character.pieces.items c.push.new.self.items c.split_at.result.0 (encode_utf8 c.in-Some.character) _ _ c.in_ok-push.ensures.items (c.split_at.ensures.front ∙ first.front)
+      whole = pushed (λ p. p.now) c.loop-character.pieces.items c.push.new.self.items c.split_at.result.0
+          (encode_utf8 c.in-Some.character) _ _ c.in_ok-push.ensures.items (c.split_at.ensures.front ∙ first.front)
           (rw (encoded_step _ _ c.in-Some.character held.is_text e) at held.whole);
     })
 

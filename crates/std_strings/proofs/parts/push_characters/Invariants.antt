@@ -10,5 +10,6 @@ abbrev pub invariant-loop-character : goal.invariant-loop-character
 invariant-loop-character l = record {
   is_text : shadow (Utf8 l.rest);
   same : l.rest ≡ chars_rest l.character-iterator;
-  whole : map (λ p. p.now) l.pieces.items ++ map encode_utf8 (chars l.rest) ≡ map (λ p. p.now) l.fn.pieces.items ++ map encode_utf8 (chars l.text);
+  whole : map (λ p. p.now) l.pieces.items ++ map encode_utf8 (chars l.rest) ≡ map (λ p. p.now) l.fn.pieces.items
+      ++ map encode_utf8 (chars l.text);
 }

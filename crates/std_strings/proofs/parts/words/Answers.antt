@@ -9,7 +9,8 @@ loop-word-preserved c =
     let step = words_step _ c.in-Some.word.now _ held.text c.in-Some.ensures.steps in
     record {
       text = step.0;
-      whole = pushed (λ p. p.now) c.loop-word.words.items c.push.new.self.items c.in-Some.word c.in-Some.word.now _ _ c.in_ok-push.ensures.items refl (rw step.1 at held.whole);
+      whole = pushed (λ p. p.now) c.loop-word.words.items c.push.new.self.items c.in-Some.word c.in-Some.word.now _ _
+          c.in_ok-push.ensures.items refl (rw step.1 at held.whole);
     }
 
 pub returns : goal.returns

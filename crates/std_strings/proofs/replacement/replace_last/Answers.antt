@@ -5,12 +5,14 @@ use Rattle.std_strings.proofs.replacement.replace_last.Goals as goal
 
 pub replace_at-requires-clause-start : goal.replace_at-requires-clause-start
 replace_at-requires-clause-start c =
-    cut_at_last c.args.text.now c.args.search.now c.utf8.text c.utf8.search c.in-Some.at (rw (c.as_bytes.ensures.value, c.as_bytes-2.ensures.value) at c.in-Some.ensures)
+    cut_at_last c.args.text.now c.args.search.now c.utf8.text c.utf8.search c.in-Some.at
+    (rw (c.as_bytes.ensures.value, c.as_bytes-2.ensures.value) at c.in-Some.ensures)
 
 pub replace_at-requires-clause-end : goal.replace_at-requires-clause-end
 replace_at-requires-clause-end c =
     let found = rw (c.as_bytes.ensures.value, c.as_bytes-2.ensures.value) at c.in-Some.ensures in
-    cut_after c.args.text.now c.args.search.now c.utf8.text c.utf8.search c.in-Some.at (cut_at_last c.args.text.now c.args.search.now c.utf8.text c.utf8.search c.in-Some.at found) found.1
+    cut_after c.args.text.now c.args.search.now c.utf8.text c.utf8.search c.in-Some.at
+    (cut_at_last c.args.text.now c.args.search.now c.utf8.text c.utf8.search c.in-Some.at found) found.1
 
 pub returns-in-Some : goal.returns-in-Some
 returns-in-Some c =

@@ -4,4 +4,5 @@ use Rattle.std_strings.specs.steps.Kinds.{kind_of}
 use Rattle.std_strings.proofs.tags.first_end.Given as goal
 
 abbrev pub invariant-loop-kind : goal.invariant-loop-kind
-invariant-loop-kind l = first_part (map kind_of l.kinds) (drop l.at l.text) ≡ first_part (map kind_of (drop l.kind-index l.kinds)) (drop l.at l.text)
+invariant-loop-kind l = first_part (map kind_of l.kinds) (drop l.at l.text) ≡ first_part (map kind_of (drop l.kind-index l.kinds))
+    (drop l.at l.text)

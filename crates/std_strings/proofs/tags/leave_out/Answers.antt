@@ -20,10 +20,12 @@ loop-at-preserved c =
       | in-Some+in_ok-push_str w ↦ rw (w.kept-is, w.rest-is) (record {
         cut = w.in-Some.ensures.cut;
         whole = rw (w.in_ok-push_str.ensures.bytes, w.range.ensures.value)
-            (part (map kind_of c.args.kinds.now) c.args.text.now _ _ c.loop-at.kept c.loop-at.at within held.whole w.in-Some.end w.in-Some.ensures.after w.in-Some.ensures.value).1;
+            (part (map kind_of c.args.kinds.now) c.args.text.now _ _ c.loop-at.kept c.loop-at.at within held.whole w.in-Some.end
+            w.in-Some.ensures.after w.in-Some.ensures.value).1;
       })
       | in_default w ↦ rw (w.kept-is, w.rest-is) (record {
         cut = held.cut;
-        whole = no_part (map kind_of c.args.kinds.now) c.args.text.now _ _ c.loop-at.kept c.loop-at.at within held.whole w.in_default.ensures.value;
+        whole = no_part (map kind_of c.args.kinds.now) c.args.text.now _ _ c.loop-at.kept c.loop-at.at within held.whole
+            w.in_default.ensures.value;
       })
     ]

@@ -8,5 +8,6 @@ use Rattle.std_strings.proofs.tags.leave_out.Given as goal
 abbrev pub invariant-loop-at : goal.invariant-loop-at
 invariant-loop-at l = record {
   cut : IsCharBoundary l.text l.kept;
-  whole : string_bytes l.rest ++ (slice_range l.text l.kept l.at ++ without_after (map kind_of l.kinds) (l.kept - l.at) (drop l.at l.text)) ≡ without (map kind_of l.kinds) l.text;
+  whole : string_bytes l.rest ++ (slice_range l.text l.kept l.at ++ without_after (map kind_of l.kinds) (l.kept - l.at)
+      (drop l.at l.text)) ≡ without (map kind_of l.kinds) l.text;
 }

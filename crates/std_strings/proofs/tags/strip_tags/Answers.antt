@@ -21,7 +21,8 @@ pub leave_out-requires-2 : goal.leave_out-requires-2
 leave_out-requires-2 c =
     let P = FitsText c.as_str-rest.result.now in
     let tag = c.parts_of-tag.ensures in
-    All-cons P c.parts_of-tag.result [] (fits_text _ _ _ c.parts_of-tag.result tag.opener tag.closer (omega arith) (omega arith) tag.end) (All-nil P)
+    All-cons P c.parts_of-tag.result [] (fits_text _ _ _ c.parts_of-tag.result tag.opener tag.closer (omega arith) (omega arith) tag.end)
+    (All-nil P)
 
 pub returns : goal.returns
 returns c =
@@ -29,4 +30,15 @@ returns c =
     let comment = c.parts_of-comment.ensures in
     let style = c.parts_of-style.ensures in
     let tag = c.parts_of-tag.ensures in
-    rw (tag.opener, tag.closer, c.as_str-rest.ensures.value, c.in_ok-without_blocks.ensures, script.opener, script.closer, comment.opener, comment.closer, style.opener, style.closer) at c.leave_out-2.ensures
+    rw (
+      tag.opener,
+      tag.closer,
+      c.as_str-rest.ensures.value,
+      c.in_ok-without_blocks.ensures,
+      script.opener,
+      script.closer,
+      comment.opener,
+      comment.closer,
+      style.opener,
+      style.closer,
+    ) at c.leave_out-2.ensures

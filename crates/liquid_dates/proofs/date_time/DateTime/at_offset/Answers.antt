@@ -6,8 +6,13 @@ use Rattle.liquid_dates.proofs.date_time.DateTime.at_offset.Goals as goal
 
 pub returns-in-Ok-clause-succeeds : goal.returns-in-Ok-clause-succeeds
 returns-in-Ok-clause-succeeds c =
-    let fits = c.in-Ok.ensures.succeeds.0 refl in
-    (λ _. (omega (arith, signed_arith, fits.0, c.shifted-local.ensures.value), omega (arith, signed_arith, fits.1, c.shifted-local.ensures.value)), λ _. refl)
+    let fits = c.in-Ok.ensures.succeeds.0 refl in (
+      λ _. (
+        omega (arith, signed_arith, fits.0, c.shifted-local.ensures.value),
+        omega (arith, signed_arith, fits.1, c.shifted-local.ensures.value),
+      ),
+      λ _. refl,
+    )
 
 pub returns-in-Ok-clause-instant : goal.returns-in-Ok-clause-instant
 returns-in-Ok-clause-instant c =

@@ -2,7 +2,18 @@ use Rattle.std.proofs.Common.{[], refl, ◌∙◌}
 use Rattle.std.proofs.lemmas.Result.{err_from_is_err_and}
 use Rattle.std.specs.Str.{chars}
 use Rattle.liquid_dates.specs.meaning.Pattern.{IsFront, print}
-use Rattle.liquid_dates.proofs.FormatLemmas.{cut_at, cut_front, cut_shorter, copied_rest, printed_directive, printed_more, printed_shorter, refuses, formats_once, refuses_only}
+use Rattle.liquid_dates.proofs.FormatLemmas.{
+  cut_at,
+  cut_front,
+  cut_shorter,
+  copied_rest,
+  printed_directive,
+  printed_more,
+  printed_shorter,
+  refuses,
+  formats_once,
+  refuses_only,
+}
 use Rattle.liquid_dates.proofs.date_time.DateTime.format.Goals as goal
 
 pub directives-init : goal.directives-init
@@ -30,7 +41,8 @@ returns-in_err-rest-clause-refused c =
     let cut = rw c.in-Some.is at (cut_at _ c.split_once.result utf8 c.split_once.ensures.cases) in
     let copied = cut_front c.args.self.now _ _ _ _ _ items front bytes cut in
     let p = err_from_is_err_and c.from_residual-in_err-rest.result c.from_residual-in_err-rest.ensures.1 in
-    rw (p.1, p.2) (refuses c.args.self.now _ (chars c.in-Some.following.now) copied.0 c.in_err-rest.field-0.0 copied.1 c.in_err-rest.ensures.err)
+    rw (p.1, p.2) (refuses c.args.self.now _
+    (chars c.in-Some.following.now) copied.0 c.in_err-rest.field-0.0 copied.1 c.in_err-rest.ensures.err)
 
 pub returns-in_err-rest-clause-only : goal.returns-in_err-rest-clause-only
 returns-in_err-rest-clause-only c = λ answer formats.

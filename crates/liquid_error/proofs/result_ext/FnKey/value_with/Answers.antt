@@ -8,6 +8,8 @@ use Rattle.liquid_error.proofs.result_ext.FnKey.value_with.Goals as goal
 pub returns-in-Ok-value : goal.returns-in-Ok-value
 returns-in-Ok-value g c =
     changed_by
-    (λ (made : String Global × String Global). g.F.FnOnce.post (fn_key_maker c.args.self) tt (Ok made.0) × g.V.FnOnce.post c.args.value tt (Ok made.1))
+    (λ (made : String Global × String Global). g.F.FnOnce.post (fn_key_maker c.args.self) tt (Ok made.0)
+    × g.V.FnOnce.post c.args.value tt (Ok made.1))
     (λ (made : String Global × String Global). with_context (string_bytes made.0) (string_bytes made.1))
-    (fn_key_result c.args.self) c.in-Err.error c.context_texts.result (c.in-Ok-key.key, c.in-Ok-value.text) c.in-Err.is (c.in-Ok-key.ensures, c.in-Ok-value.ensures) c.context_texts.ensures
+    (fn_key_result c.args.self) c.in-Err.error c.context_texts.result (c.in-Ok-key.key, c.in-Ok-value.text) c.in-Err.is
+    (c.in-Ok-key.ensures, c.in-Ok-value.ensures) c.context_texts.ensures

@@ -5,7 +5,16 @@ use Rattle.liquid_plugins.specs.meaning.NodesOf.{shapes_of}
 use Rattle.liquid_parser.specs.meaning.Plugins.{language_of}
 use Rattle.liquid_parser.specs.steps.Views.{open_view, blocks_view, state_view}
 use Rattle.liquid_parser.proofs.DispatchLemmas.{blocks_count}
-use Rattle.liquid_parser.proofs.ClosingLemmas.{Closing-on, Closing-refused, Closing-unchecked, Closing-end, Closing-unclosed, Closing-closed, further, empty_list}
+use Rattle.liquid_parser.proofs.ClosingLemmas.{
+  Closing-on,
+  Closing-refused,
+  Closing-unchecked,
+  Closing-end,
+  Closing-unclosed,
+  Closing-closed,
+  further,
+  empty_list,
+}
 use Rattle.liquid_parser.proofs.reading.closing.read_until_closed.Goals as goal
 
 pub elements-init : goal.elements-init

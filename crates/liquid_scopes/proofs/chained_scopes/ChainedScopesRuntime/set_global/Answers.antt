@@ -8,7 +8,16 @@ use Rattle.liquid_runtime.specs.meaning.Sets.{old_value, no_global_frame}
 use Rattle.liquid_scopes.specs.steps.Layers.{shown_over, restoring, assigned, assigning, is_global}
 use Rattle.liquid_scopes.specs.steps.LinkLayers.{layer_of}
 use Rattle.liquid_scopes.proofs.GivesLaws.{gives_value, gives_same, on_both}
-use Rattle.liquid_scopes.proofs.LayerLaws.{shown_globals_are, shown_put_global, restoring_put_global, set_shown, set_restoring, set_same, globals_here, read_here}
+use Rattle.liquid_scopes.proofs.LayerLaws.{
+  shown_globals_are,
+  shown_put_global,
+  restoring_put_global,
+  set_shown,
+  set_restoring,
+  set_same,
+  globals_here,
+  read_here,
+}
 use Rattle.liquid_scopes.proofs.chained_scopes.ChainedScopesRuntime.set_global.Goals as goal
 
 pub assign-requires : goal.assign-requires

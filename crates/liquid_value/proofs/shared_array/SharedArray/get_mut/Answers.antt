@@ -11,9 +11,16 @@ use Rattle.liquid_value.proofs.shared_array.SharedArray.get_mut.Goals as goal
 
 pub returns-in-Shared : goal.returns-in-Shared
 returns-in-Shared c = (
-  (refl, (λ w. ap array_view (search (rules, the_lemmas)) ∙ items-Shared (rc_with_value c.in-Shared.array w)), ap array_view (search (rules, the_lemmas))),
+  (
+    refl,
+    (λ w. ap array_view (search (rules, the_lemmas)) ∙ items-Shared (rc_with_value c.in-Shared.array w)),
+    ap array_view (search (rules, the_lemmas)),
+  ),
   record {
     writes_back = tt;
-    value = IfSome_then c.get_mut.result c.get_mut.ensures.value (λ m e. ap (λ (k : Vec Value). items_view k.items) e ∙ ap (λ (r : Rc (Vec Value) Global). items_view r.value.items) c.in-Shared.array-is ∙ sym (items-Shared c.in-Shared.array) ∙ ap array_view (sym c.in-Shared.is));
+    value = IfSome_then c.get_mut.result c.get_mut.ensures.value
+        (λ m e. ap (λ (k : Vec Value). items_view k.items) e
+        ∙ ap (λ (r : Rc (Vec Value) Global). items_view r.value.items) c.in-Shared.array-is ∙ sym (items-Shared c.in-Shared.array)
+        ∙ ap array_view (sym c.in-Shared.is));
   },
 )

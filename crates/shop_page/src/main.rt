@@ -1,18 +1,8 @@
-//! A shop's page: an example program over the engine, the tag library and the standard filters, with a filter, a tag
-//! and blocks of its own.
+//! Writes the page of the crate `shop`, and what two of its customers wrote.
 #![tactic(auto)]
 
-pub mod badge;
-pub mod filters;
-pub mod languages;
-pub mod pages;
-pub mod stock;
-#[cfg(test)]
-mod tests;
-pub mod twice;
-
 use liquid_core::{Error, WriterSink};
-use pages::{Shop, write_review};
+use shop::pages::{Shop, write_review};
 use std::alloc::Global;
 use std::io::{self, Write};
 use std::process::ExitCode;

@@ -1,32 +1,45 @@
 //! Rows of the shop's language.
-use crate::languages::language;
-use crate::pages::{Shop, write_review};
 use liquid_core::model::{Object, Value};
-use liquid_core::runtime::{BuiltRuntime, RuntimeBuilder};
-use liquid_core::{Error, TextSink, render_source};
-use std::alloc::Global;
+use liquid_core::partials::InMemorySource;
+use liquid_core::{Error, TextSink, render_page_in};
+use shop::languages::language;
+use std::alloc::{AllocError, Global};
 use std::test::Fail;
-use tests_lines::Line;
+use tests_lines::{Line, rows_hold};
 
-/// Returns what a text writes if `left` has a value, and the error after it.
-fn written(alloc: Global, text: &str, left: i64) -> Result<String, Error> {
+/// Returns globals with this value of `left`.
+fn globals(alloc: Global, left: i64) -> Result<Object, AllocError> {
+    let mut globals = Object::new(alloc);
+    globals.insert(String::from_str(alloc, "left")?, Value::scalar(left))?;
+    Ok(globals)
+}
+
+/// Renders a text in the shop's language over these globals.
+fn render(alloc: Global, text: &str, globals: Object, sink: &mut TextSink) -> Result<(), Error> {
     let language = language(alloc)?;
-    let mut names = Object::new(alloc);
-    names.insert(String::from_str(alloc, "left")?, Value::scalar(left))?;
-    let mut runtime: BuiltRuntime<(), ()> = RuntimeBuilder::new(alloc).set_globals(names).build();
+    let partials = InMemorySource::new(alloc);
+    render_page_in::<(), _, _, _, _, _>(alloc, text, language, globals, partials, sink)
+}
+
+/// Returns what a text writes over these globals, and the error after it.
+fn written(alloc: Global, text: &str, globals: Object) -> Result<String, Fail> {
     let mut sink = TextSink::new(alloc);
-    let answer = render_source(alloc, text, &language, &mut runtime, &mut sink);
-    let Ok(mut all) = sink.into_string() else {
-        return Err(Error::with_msg(alloc, "no text"));
-    };
+    let answer = render(alloc, text, globals, &mut sink);
+    let mut all = sink.into_string()?;
     if let Err(error) = answer {
         all.push_str(error.to_string(alloc)?.as_str())?;
     }
     Ok(all)
 }
 
+/// Returns `true` if a text writes what its row says.
+fn holds(alloc: Global, row: &Line) -> Result<bool, Fail> {
+    let written = written(alloc, row.text(0)?, globals(alloc, row.number(1)?)?)?;
+    Ok(written.as_str() == row.text(2)?)
+}
+
 /// A text, the value of `left`, and what is written.
-const ROWS: &str = r#"["{{ 'rain' | upcase }}", 1, "RAIN"]
+static ROWS: &str = r#"["{{ 'rain' | upcase }}", 1, "RAIN"]
 ["{{ left | quoted }}", 12, "\"12\""]
 ["{{ 'a' | quoted | size }}", 1, "3"]
 ["{% badge 'new' %}", 1, "[new]"]
@@ -56,26 +69,6 @@ const ROWS: &str = r#"["{{ 'rain' | upcase }}", 1, "RAIN"]
 
 #[test]
 fn rows_of_the_language(rt: HostRuntime) -> Result<(), Fail> {
-    let alloc = rt.alloc();
-    let mut rows: usize = 0;
-    for line in ROWS.lines() {
-        let row = Line::of(alloc, line)?;
-        let written = written(alloc, row.text(0)?, row.number(1)?)?;
-        assert_eq!(rt; written.as_str(), row.text(2)?);
-        rows = rows.saturating_add(1);
-    }
-    assert_eq!(rt; rows, 27);
-    Ok(())
-}
-
-#[test]
-fn a_review_sees_nothing_of_the_shop(rt: HostRuntime) -> Result<(), Fail> {
-    let alloc = rt.alloc();
-    let mut shop = Shop::open(alloc)?;
-    let mut sink = TextSink::new(alloc);
-    write_review(alloc, &mut shop, "{{ item }} {{ shop.margin }}", &mut sink)?;
-    let refused =
-        "Rain gauge \nRefused: liquid: Unknown variable\n  with:\n    requested variable=shop\n";
-    assert_eq!(rt; sink.as_bytes(), refused.as_bytes());
-    Ok(())
+    rows_hold(rt.alloc(), ROWS, holds)?;
+    tests_lines::holds(ROWS.lines().count() == 27, "a table has all its rows")
 }

@@ -1,0 +1,5 @@
+//! The tests of the renderer for C.
+#![tactic(auto)]
+
+#[cfg(test)]
+mod pages;

@@ -1,0 +1,23 @@
+//! What tests check in a language.
+use bench::language;
+use liquid_core::parser::{Language, ParseBlock, ParseFilter, ParseTag};
+use liquid_core::runtime::Renderable;
+use std::alloc::Global;
+use std::test::Fail;
+
+/// What a test checks in any language.
+pub(crate) trait Check {
+    fn check<F, T, B>(&self, alloc: Global, language: &Language<F, T, B>) -> Result<(), Fail>
+    where
+        F: ParseFilter + Drop,
+        T: ParseTag<F> + Drop,
+        B: ParseBlock<F> + Drop,
+        T::Node: Renderable<()>,
+        B::Node: Renderable<()>;
+}
+
+/// Checks a copy of the plain language. No other function here names it in a call that is generic in the language: each that does is
+/// checked against all that its plug-ins promise.
+pub(crate) fn check_language<C: Check>(alloc: Global, check: &C) -> Result<(), Fail> {
+    check.check(alloc, &language(alloc)?.clone()?)
+}

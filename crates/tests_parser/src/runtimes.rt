@@ -1,0 +1,32 @@
+//! What tests check over a runtime.
+use liquid_core::model::to_object;
+use liquid_core::runtime::{BuiltRuntime, Runtime, RuntimeBuilder};
+use serde_json::Value as Json;
+use std::alloc::Global;
+use std::test::Fail;
+
+/// The globals of the rows.
+const GLOBALS: &str =
+    r#"{"list": [0, 1, 2, 3, 4, 5, 6, 7, 8, 9], "one": [1], "word": "part", "box": {"part": 7}}"#;
+
+/// Returns a runtime with the globals, with lenient names or not.
+fn runtime(alloc: Global, lenient: bool) -> Result<BuiltRuntime<(), ()>, Fail> {
+    let globals = to_object(alloc, &Json::from_str(alloc, GLOBALS)?)?;
+    Ok(
+        RuntimeBuilder::new(alloc)
+            .set_globals(globals)
+            .set_lenient(lenient)
+            .build(),
+    )
+}
+
+/// What a test checks over any runtime.
+pub(crate) trait Check {
+    fn check<R: Runtime>(&self, alloc: Global, runtime: &R) -> Result<(), Fail>;
+}
+
+/// Checks a runtime with the globals, with lenient names or not. No other function here names its type in a call that is
+/// generic in the runtime: each that does is checked against all that a runtime promises.
+pub(crate) fn check_over<C: Check>(alloc: Global, lenient: bool, check: &C) -> Result<(), Fail> {
+    check.check(alloc, &runtime(alloc, lenient)?)
+}

@@ -1,0 +1,21 @@
+//! What a review sees.
+use liquid_core::{Error, TextSink};
+use shop::pages::{Shop, write_review};
+use std::alloc::Global;
+use std::test::Fail;
+use tests_lines::same;
+
+/// Writes a review of a shop that is opened for it.
+fn write(alloc: Global, review: &str, sink: &mut TextSink) -> Result<(), Error> {
+    let mut shop = Shop::open(alloc)?;
+    write_review(alloc, &mut shop, review, sink)
+}
+
+#[test]
+fn a_review_sees_nothing_of_the_shop(rt: HostRuntime) -> Result<(), Fail> {
+    let mut sink = TextSink::new(rt.alloc());
+    write(rt.alloc(), "{{ item }} {{ shop.margin }}", &mut sink)?;
+    let refused =
+        "Rain gauge \nRefused: liquid: Unknown variable\n  with:\n    requested variable=shop\n";
+    same(sink.into_string()?.as_str(), refused)
+}

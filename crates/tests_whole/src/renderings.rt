@@ -1,0 +1,147 @@
+//! The calls that render a template, each over a runtime of its own, of any type.
+use crate::pages::is_told;
+use liquid_core::runtime::{ChainedScopes, FlatScopes, Renderable, Runtime, Scopes, Template};
+use liquid_core::{Error, Filter, PartialStore, TextSink};
+use std::alloc::Global;
+use std::test::Fail;
+use tests_lines::Row;
+
+/// A call that renders a template.
+#[derive(Clone, Copy)]
+pub(crate) enum Rendering {
+    /// `render_to`.
+    To,
+    /// `render`, which returns no text with an error.
+    Whole,
+    /// `render_in` over scopes whose names are looked up frame by frame.
+    Chained,
+    /// `render_in` over scopes with a table of names.
+    Flat,
+}
+
+pub(crate) const RENDERINGS: [Rendering; 4] = [
+    Rendering::To,
+    Rendering::Whole,
+    Rendering::Chained,
+    Rendering::Flat,
+];
+
+/// Returns `true` if a template has a row's result by `render_to`.
+fn is_rendered_to<X, T, B, R>(
+    alloc: Global,
+    row: &Row,
+    page: &Template<X, T, B>,
+    mut runtime: R,
+) -> Result<bool, Fail>
+where
+    X: Filter,
+    T: Renderable<()>,
+    B: Renderable<()>,
+    R: Runtime<Register = ()> + Drop,
+    R::Store: PartialStore<X, T, B>,
+{
+    let mut sink = TextSink::new(alloc);
+    let answer = page.render_to(alloc, &mut sink, &mut runtime);
+    is_told(alloc, row, &sink, &answer)
+}
+
+/// Returns `true` if a call returned what a row says, or the row's error.
+fn is_returned(alloc: Global, row: &Row, answer: &Result<String, Error>) -> Result<bool, Fail> {
+    match answer {
+        Ok(text) => Ok((text.as_str() == row.written()) & row.error().is_empty()),
+        Err(error) => Ok(error.to_string(alloc)?.as_str() == row.error()),
+    }
+}
+
+/// Returns `true` if a template has a row's result by `render`.
+fn is_rendered_whole<X, T, B, R>(
+    alloc: Global,
+    row: &Row,
+    page: &Template<X, T, B>,
+    mut runtime: R,
+) -> Result<bool, Fail>
+where
+    X: Filter,
+    T: Renderable<()>,
+    B: Renderable<()>,
+    R: Runtime<Register = ()> + Drop,
+    R::Store: PartialStore<X, T, B>,
+{
+    let answer = page.render(alloc, &mut runtime);
+    is_returned(alloc, row, &answer)
+}
+
+/// Returns `true` if a template has a row's result by `render_in` over scopes of one form, which leaves no frame open.
+fn is_rendered_in<S, X, T, B>(
+    alloc: Global,
+    row: &Row,
+    page: &Template<X, T, B>,
+    base: S::Base,
+) -> Result<bool, Fail>
+where
+    S: Scopes<Register = ()>,
+    S::Base: Drop,
+    X: Filter,
+    T: Renderable<()>,
+    B: Renderable<()>,
+    S::Store: PartialStore<X, T, B>,
+{
+    let mut scopes = S::new(alloc, base);
+    let mut sink = TextSink::new(alloc);
+    let answer = page.render_in(alloc, &mut sink, &mut scopes);
+    let frames = scopes.frames();
+    drop(scopes.into_base());
+    Ok((frames == 0) & is_told(alloc, row, &sink, &answer)?)
+}
+
+/// Returns `true` if a template has a row's result by one of the calls that render it.
+pub(crate) fn is_rendered<X, T, B, R>(
+    alloc: Global,
+    row: &Row,
+    page: &Template<X, T, B>,
+    rendering: Rendering,
+    runtime: R,
+) -> Result<bool, Fail>
+where
+    X: Filter,
+    T: Renderable<()>,
+    B: Renderable<()>,
+    R: Runtime<Register = ()> + Drop,
+    R::Store: PartialStore<X, T, B>,
+{
+    match rendering {
+        Rendering::To => is_rendered_to(alloc, row, page, runtime),
+        Rendering::Whole => is_rendered_whole(alloc, row, page, runtime),
+        Rendering::Chained => {
+            is_rendered_in::<ChainedScopes<R>, X, T, B>(alloc, row, page, runtime)
+        }
+        Rendering::Flat => is_rendered_in::<FlatScopes<R>, X, T, B>(alloc, row, page, runtime),
+    }
+}
+
+/// Returns what a sink took, and after it the text of the error.
+fn with_error(alloc: Global, sink: TextSink, answer: Result<(), Error>) -> Result<String, Fail> {
+    let mut all = sink.into_string()?;
+    if let Err(error) = answer {
+        all.push_str(error.to_string(alloc)?.as_str())?;
+    }
+    Ok(all)
+}
+
+/// Returns what a template writes over a runtime, and after it the text of its error.
+pub(crate) fn rendered<X, T, B, R>(
+    alloc: Global,
+    page: &Template<X, T, B>,
+    runtime: &mut R,
+) -> Result<String, Fail>
+where
+    X: Filter,
+    R: Runtime,
+    T: Renderable<R::Register>,
+    B: Renderable<R::Register>,
+    R::Store: PartialStore<X, T, B>,
+{
+    let mut sink = TextSink::new(alloc);
+    let answer = page.render_to(alloc, &mut sink, runtime);
+    with_error(alloc, sink, answer)
+}
