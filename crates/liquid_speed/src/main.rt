@@ -9,7 +9,8 @@ mod names;
 mod problem;
 mod site;
 
-use liquid_core::runtime::{BuiltRuntime, ChainedScopes, FlatScopes};
+use liquid_core::runtime::{ChainedScopes, FlatScopes};
+use names::Base;
 use problem::Problem;
 use site::Form;
 use std::env;
@@ -17,10 +18,10 @@ use std::io::Write;
 use std::process::ExitCode;
 
 /// The number of posts of a site.
-const POSTS: [u32; 4] = [1250, 2500, 5000, 10_000];
+static POSTS: [u32; 4] = [1250, 2500, 5000, 10_000];
 
 /// The number of open frames.
-const FRAMES: [u32; 4] = [1, 10, 100, 1000];
+static FRAMES: [u32; 4] = [1, 10, 100, 1000];
 
 /// Prints a line of a table: what was measured, and how many nanoseconds it took.
 fn told(
@@ -34,49 +35,75 @@ fn told(
     Ok(())
 }
 
-/// Prints the table of one measure.
-fn measure(rt: &HostRuntime, word: &str) -> Result<(), Problem> {
+/// What a table measures.
+#[derive(Clone, Copy)]
+enum Measure {
+    Parse,
+    Render,
+    Over(Form),
+    Name(Form),
+}
+
+/// Returns what a word measures.
+fn measure_of(word: &str) -> Option<Measure> {
     match word {
-        "parse" => for posts in POSTS {
-            let time = site::parse_time(rt, posts)?;
-            told(rt, "a site is parsed", posts, "posts", time)?;
-        },
-        "render" => for posts in POSTS {
-            let time = site::render_time(rt, posts)?;
-            told(rt, "a parsed site is rendered", posts, "posts", time)?;
-        },
-        "over-flat" => for posts in POSTS {
-            let time = site::time_over(rt, posts, Form::Flat)?;
-            told(rt, "a site over flat scopes", posts, "posts", time)?;
-        },
-        "over-chained" => for posts in POSTS {
-            let time = site::time_over(rt, posts, Form::Chained)?;
-            told(rt, "a site over chained scopes", posts, "posts", time)?;
-        },
-        "flat" => for frames in FRAMES {
-            let time = names::time::<FlatScopes<BuiltRuntime<(), ()>>>(
-                rt,
-                names::base(rt.alloc())?,
-                frames,
-            )?;
-            told(rt, "a name in flat scopes", frames, "frames", time)?;
-        },
-        "chained" => for frames in FRAMES {
-            let time = names::time::<ChainedScopes<BuiltRuntime<(), ()>>>(
-                rt,
-                names::base(rt.alloc())?,
-                frames,
-            )?;
-            told(rt, "a name in chained scopes", frames, "frames", time)?;
-        },
-        _ => return Err(Problem::Usage),
+        "parse" => Some(Measure::Parse),
+        "render" => Some(Measure::Render),
+        "over-flat" => Some(Measure::Over(Form::Flat)),
+        "over-chained" => Some(Measure::Over(Form::Chained)),
+        "flat" => Some(Measure::Name(Form::Flat)),
+        "chained" => Some(Measure::Name(Form::Chained)),
+        _ => None,
+    }
+}
+
+/// Returns what the lines of a measure say.
+fn line_of(measure: Measure) -> &'static str {
+    match measure {
+        Measure::Parse => "a site is parsed",
+        Measure::Render => "a parsed site is rendered",
+        Measure::Over(Form::Flat) => "a site over flat scopes",
+        Measure::Over(Form::Chained) => "a site over chained scopes",
+        Measure::Name(Form::Flat) => "a name in flat scopes",
+        Measure::Name(Form::Chained) => "a name in chained scopes",
+    }
+}
+
+/// Returns the sizes of a measure, and their unit.
+fn sizes_of(measure: Measure) -> (&'static [u32; 4], &'static str) {
+    match measure {
+        Measure::Name(_) => (&FRAMES, "frames"),
+        _ => (&POSTS, "posts"),
+    }
+}
+
+/// Returns how many nanoseconds a measure of this size takes.
+fn time_of(rt: &HostRuntime, measure: Measure, size: u32) -> Result<u128, Problem> {
+    match measure {
+        Measure::Parse => site::parse_time(rt, size),
+        Measure::Render => site::render_time(rt, size),
+        Measure::Over(form) => site::time_over(rt, size, form),
+        Measure::Name(Form::Flat) => names::time::<FlatScopes<Base>>(rt, size),
+        Measure::Name(Form::Chained) => names::time::<ChainedScopes<Base>>(rt, size),
+    }
+}
+
+/// Prints the table of one measure.
+fn print_table(rt: &HostRuntime, measure: Measure) -> Result<(), Problem> {
+    let (sizes, unit) = sizes_of(measure);
+    for size in sizes {
+        let time = time_of(rt, measure, *size)?;
+        told(rt, line_of(measure), *size, unit, time)?;
     }
     Ok(())
 }
 
 fn serve(rt: &HostRuntime) -> Result<(), Problem> {
     for word in env::args(rt)?.skip(1) {
-        measure(rt, word.as_str())?;
+        match measure_of(word.as_str()) {
+            Some(measure) => print_table(rt, measure)?,
+            None => return Err(Problem::Usage),
+        }
     }
     Ok(())
 }

@@ -23,8 +23,11 @@ fn names(alloc: Global) -> Result<Vec<String>, AllocError> {
     Ok(names)
 }
 
+/// A runtime without partials.
+pub type Base = BuiltRuntime<(), ()>;
+
 /// Returns a runtime with these names.
-pub fn base(alloc: Global) -> Result<BuiltRuntime<(), ()>, AllocError> {
+fn base(alloc: Global) -> Result<Base, AllocError> {
     let mut globals = Object::new(alloc);
     for name in names(alloc)? {
         globals.insert(name, Value::scalar(1))?;
@@ -76,12 +79,12 @@ fn under<S: Scopes, C: Clock>(
 }
 
 /// Measures the same over a base without frames.
-pub fn time<S: Scopes>(rt: &HostRuntime, base: S::Base, frames: u32) -> Result<u128, Problem>
-where
-    S::Base: Drop,
-{
-    let mut scopes = S::new(rt.alloc(), base);
+pub fn time<S: Scopes<Base = Base, Register = (), Store = ()>>(
+    rt: &HostRuntime,
+    frames: u32,
+) -> Result<u128, Problem> {
+    let mut scopes = S::new(rt.alloc(), base(rt.alloc())?);
     let answer = under(rt.alloc(), rt, &mut scopes, frames);
-    let _base = scopes.into_base();
+    drop(scopes.into_base());
     answer
 }

@@ -4,10 +4,10 @@ use bench::Filters;
 use bench::filters::AnyFilter;
 use bench::languages::filters;
 use liquid_core::model::{SharedArray, SharedObject};
-use liquid_core::parser::{Filter, Language, parse};
+use liquid_core::parser::{Filter, Language, ParseBlock, ParseFilter, ParseTag, parse};
 use liquid_core::partials::{EagerCompiler, EagerStore, InMemorySource, PartialCompiler};
 use liquid_core::runtime::{
-    BuiltRuntime, ChainedScopes, FlatScopes, Renderable, RuntimeBuilder, Scopes, Template,
+    BuiltRuntime, ChainedScopes, FlatScopes, Renderable, Runtime, RuntimeBuilder, Scopes, Template,
 };
 use liquid_core::{Object, PartialStore, TextSink, Value};
 use liquid_tags::{BlockNode, Blocks, TagNode, Tags, language};
@@ -83,6 +83,20 @@ fn page(alloc: Global, posts: u32, language: &TheLanguage) -> Result<Page, Probl
     Ok(Template::new(parse(alloc, text.as_str(), language)?))
 }
 
+/// A page, and its language.
+#[derive(Drop)]
+struct Site {
+    language: Rc<TheLanguage>,
+    page: Page,
+}
+
+/// Returns the site of that many posts.
+fn site(alloc: Global, posts: u32) -> Result<Site, Problem> {
+    let language = shared_language(alloc)?;
+    let page = page(alloc, posts, &language)?;
+    Ok(Site { language, page })
+}
+
 /// Returns a runtime with the globals and the partials of a site of that many posts.
 fn base(alloc: Global, posts: u32, language: &Rc<TheLanguage>) -> Result<Base, AllocError> {
     Ok(
@@ -93,37 +107,95 @@ fn base(alloc: Global, posts: u32, language: &Rc<TheLanguage>) -> Result<Base, A
     )
 }
 
-/// Returns how many nanoseconds the page of that many posts takes to be parsed.
-pub fn parse_time(rt: &HostRuntime, posts: u32) -> Result<u128, Problem> {
-    let alloc = rt.alloc();
-    let language = shared_language(alloc)?;
-    let text = page_text(alloc, posts)?;
+/// Returns how many nanoseconds a text takes to be parsed.
+fn once_parsed<F, T, B>(
+    rt: &HostRuntime,
+    text: &str,
+    language: &Language<F, T, B>,
+) -> Result<u128, Problem>
+where
+    F: ParseFilter + Drop,
+    T: ParseTag<F> + Drop,
+    B: ParseBlock<F> + Drop,
+{
+    let start = Instant::now(rt)?;
+    let nodes = parse(rt.alloc(), text, language)?;
+    let time = start.elapsed(rt);
+    drop(nodes);
+    Ok(time?.as_nanos())
+}
+
+/// Returns the least time in which a text is parsed.
+fn least_parse_time(rt: &HostRuntime, text: &str, language: &TheLanguage) -> Result<u128, Problem> {
     let mut best = u128::MAX;
     for _ in 0..ROUNDS {
-        let start = Instant::now(rt)?;
-        let nodes = parse(alloc, text.as_str(), &language)?;
-        let time = start.elapsed(rt)?.as_nanos();
-        drop(nodes);
-        best = best.min(time);
+        best = best.min(once_parsed(rt, text, language)?);
     }
     Ok(best)
 }
 
-/// Returns how many nanoseconds the parsed page of that many posts takes to be rendered.
-pub fn render_time(rt: &HostRuntime, posts: u32) -> Result<u128, Problem> {
-    let alloc = rt.alloc();
-    let language = shared_language(alloc)?;
-    let page = page(alloc, posts, &language)?;
-    let mut runtime = base(alloc, posts, &language)?;
+/// Returns how many nanoseconds the page of that many posts takes to be parsed.
+pub fn parse_time(rt: &HostRuntime, posts: u32) -> Result<u128, Problem> {
+    let text = page_text(rt.alloc(), posts)?;
+    let language = shared_language(rt.alloc())?;
+    let time = least_parse_time(rt, text.as_str(), &language);
+    drop(language);
+    time
+}
+
+/// Returns how many nanoseconds a page takes to be rendered over a runtime.
+fn once<X, T, B, R>(
+    rt: &HostRuntime,
+    page: &Template<X, T, B>,
+    runtime: &mut R,
+) -> Result<u128, Problem>
+where
+    X: Filter,
+    T: Renderable<R::Register>,
+    B: Renderable<R::Register>,
+    R: Runtime,
+    R::Store: PartialStore<X, T, B>,
+{
+    let start = Instant::now(rt)?;
+    let mut sink = TextSink::new(rt.alloc());
+    page.render_to(rt.alloc(), &mut sink, runtime)?;
+    Ok(start.elapsed(rt)?.as_nanos())
+}
+
+/// Returns the least time in which a page is rendered over a runtime.
+fn least_time<X, T, B, R>(
+    rt: &HostRuntime,
+    page: &Template<X, T, B>,
+    runtime: &mut R,
+) -> Result<u128, Problem>
+where
+    X: Filter,
+    T: Renderable<R::Register>,
+    B: Renderable<R::Register>,
+    R: Runtime,
+    R::Store: PartialStore<X, T, B>,
+{
     let mut best = u128::MAX;
     for _ in 0..ROUNDS {
-        let start = Instant::now(rt)?;
-        let mut sink = TextSink::new(alloc);
-        page.render_to(alloc, &mut sink, &mut runtime)?;
-        let time = start.elapsed(rt)?.as_nanos();
-        best = best.min(time);
+        best = best.min(once(rt, page, runtime)?);
     }
     Ok(best)
+}
+
+/// Returns the least time in which the page of a site is rendered.
+fn site_time(rt: &HostRuntime, posts: u32, site: &Site) -> Result<u128, Problem> {
+    let mut runtime = base(rt.alloc(), posts, &site.language)?;
+    let time = least_time(rt, &site.page, &mut runtime);
+    drop(runtime);
+    time
+}
+
+/// Returns how many nanoseconds the parsed page of that many posts takes to be rendered.
+pub fn render_time(rt: &HostRuntime, posts: u32) -> Result<u128, Problem> {
+    let site = site(rt.alloc(), posts)?;
+    let time = site_time(rt, posts, &site);
+    drop(site);
+    time
 }
 
 /// A form of scopes.
@@ -131,23 +203,6 @@ pub fn render_time(rt: &HostRuntime, posts: u32) -> Result<u128, Problem> {
 pub enum Form {
     Flat,
     Chained,
-}
-
-/// Measures the same by `render_in`, over scopes of this form.
-pub fn time_over(rt: &HostRuntime, posts: u32, form: Form) -> Result<u128, Problem> {
-    let alloc = rt.alloc();
-    let language = shared_language(alloc)?;
-    let page = page(alloc, posts, &language)?;
-    let mut best = u128::MAX;
-    for _ in 0..ROUNDS {
-        let base = base(alloc, posts, &language)?;
-        let time = match form {
-            Form::Flat => once_over::<FlatScopes<Base>, _, _, _>(rt, &page, base)?,
-            Form::Chained => once_over::<ChainedScopes<Base>, _, _, _>(rt, &page, base)?,
-        };
-        best = best.min(time);
-    }
-    Ok(best)
 }
 
 /// Returns how many nanoseconds a page takes to be rendered over this base.
@@ -164,13 +219,38 @@ where
     B: Renderable<S::Register>,
     S::Store: PartialStore<X, T, B>,
 {
-    let alloc = rt.alloc();
     let start = Instant::now(rt)?;
-    let mut sink = TextSink::new(alloc);
-    let mut scopes = S::new(alloc, base);
-    let answer = page.render_in(alloc, &mut sink, &mut scopes);
-    let _base = scopes.into_base();
+    let mut sink = TextSink::new(rt.alloc());
+    let mut scopes = S::new(rt.alloc(), base);
+    let answer = page.render_in(rt.alloc(), &mut sink, &mut scopes);
+    drop(scopes.into_base());
     let time = start.elapsed(rt)?.as_nanos();
     answer?;
     Ok(time)
+}
+
+/// Returns how many nanoseconds the page of a site takes to be rendered over scopes of this form.
+fn site_time_over(rt: &HostRuntime, posts: u32, site: &Site, form: Form) -> Result<u128, Problem> {
+    let base = base(rt.alloc(), posts, &site.language)?;
+    match form {
+        Form::Flat => once_over::<FlatScopes<Base>, _, _, _>(rt, &site.page, base),
+        Form::Chained => once_over::<ChainedScopes<Base>, _, _, _>(rt, &site.page, base),
+    }
+}
+
+/// Returns the least time in which the page of a site is rendered over scopes of this form.
+fn least_time_over(rt: &HostRuntime, posts: u32, site: &Site, form: Form) -> Result<u128, Problem> {
+    let mut best = u128::MAX;
+    for _ in 0..ROUNDS {
+        best = best.min(site_time_over(rt, posts, site, form)?);
+    }
+    Ok(best)
+}
+
+/// Measures the same by `render_in`, over scopes of this form.
+pub fn time_over(rt: &HostRuntime, posts: u32, form: Form) -> Result<u128, Problem> {
+    let site = site(rt.alloc(), posts)?;
+    let time = least_time_over(rt, posts, &site, form);
+    drop(site);
+    time
 }

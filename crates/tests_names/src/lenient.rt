@@ -226,10 +226,9 @@ fn is_found<S: Scopes>(
         None => Ok(false),
         Some((first, rest)) => {
             let name = first.to_kstr(alloc)?;
-            match scopes.try_get_name(name.as_str()) {
-                Some(value) => Ok(find(alloc, value, rest).is_ok()),
-                None => Ok(false),
-            }
+            let value = scopes.try_get_name(name.as_str());
+            drop(name);
+            Ok(value.is_some_and(|value| find(alloc, value, rest).is_ok()))
         }
     }
 }
@@ -256,10 +255,9 @@ fn note_others<S: Scopes>(
     log: &mut String,
 ) -> Result<(), Error> {
     let roots = scopes.roots(alloc)?;
-    let mut is_same = roots.len() == names.len();
-    for name in names {
-        is_same = is_same && name.as_str().is_some_and(|name| roots.contains(name));
-    }
+    let is_same = roots.len() == names.len()
+        && names.iter().all(|name| name.as_str().is_some_and(|name| roots.contains(name)));
+    drop(roots);
     if !is_same {
         log.push_str("other names")?;
     }
@@ -290,13 +288,16 @@ fn notes_nothing<B: Body>(
 
 /// Returns `true` if the path of a row has the expected result.
 fn is_asked(alloc: Global, lenient: bool, row: &Line) -> Result<bool, Fail> {
+    let (frames, set, strict) = (row.list(0)?.as_slice(), row.text(1)?, row.text(3)?);
     let path = path_of(alloc, row.list(2)?)?;
     let asks = Asks {
-        set: row.text(1)?,
+        set,
         path: path.as_slice(),
-        strict: row.text(3)?,
+        strict,
     };
-    Ok(notes_nothing(alloc, lenient, row.list(0)?.as_slice(), &asks)?)
+    let is_asked = notes_nothing(alloc, lenient, frames, &asks);
+    drop(path);
+    Ok(is_asked?)
 }
 
 /// Returns `true` if the names seen are those of a row.

@@ -76,19 +76,44 @@ fn is_tried_alike(
     Ok(is_tried == find(alloc, value, path).is_ok())
 }
 
+/// Returns `true` if a path of these indexes leads to the answer, and to a value exactly if it is tried to one.
+fn is_answered(
+    alloc: Global,
+    value: &Value,
+    path: &[ScalarCow<'_>],
+    answer: &str,
+) -> Result<bool, AllocError> {
+    Ok(leads_to(alloc, value, path, answer)? && is_tried_alike(alloc, value, path)?)
+}
+
+/// Returns `true` if the path of these indexes leads to the answer, tried or not.
+fn answer_holds(
+    alloc: Global,
+    value: &Value,
+    indexes: &Vec<Json>,
+    answer: &str,
+) -> Result<bool, Fail> {
+    let path = path_of(alloc, indexes)?;
+    let holds = is_answered(alloc, value, path.as_slice(), answer);
+    drop(path);
+    Ok(holds?)
+}
+
 /// Returns `true` if the path of a row leads to what the row says, tried or not.
 fn row_holds(alloc: Global, value: &Value, row: &Line) -> Result<bool, Fail> {
-    let path = path_of(alloc, row.list(0)?)?;
-    Ok(
-        leads_to(alloc, value, path.as_slice(), row.text(1)?)?
-            && is_tried_alike(alloc, value, path.as_slice())?,
-    )
+    answer_holds(alloc, value, row.list(0)?, row.text(1)?)
 }
 
 /// Values, a path into each, and the text of its error.
 const REFUSED: &str =
     r#"[{"a": 1}, ["x", "y"], "liquid: Unknown index\n  with:\n    requested index=x\n    available indexes=a\n"]
 [{"a": {"c": 1, "d": 2}}, ["a", "b"], "liquid: Unknown index\n  with:\n    variable=a\n    requested index=b\n    available indexes=c, d\n"]"#;
+
+/// A path, how many of its indexes come before a walk through `{"c": 1, "d": 2}`, and the result of the rest of the path:
+/// a value's text or that of the error.
+const AFTER: &str = r#"[["a", "d"], 1, "2"]
+[["a", "d"], 2, "c1d2"]
+[["a", "b"], 1, "liquid: Unknown index\n  with:\n    variable=a\n    requested index=b\n    available indexes=c, d\n"]"#;
 
 /// Returns `true` if a text is the result of the rest of a path after its first indexes.
 fn leads_on_to(
@@ -101,36 +126,35 @@ fn leads_on_to(
     Ok(answer_text(alloc, find_after(alloc, front, value, path))?.as_str() == answer)
 }
 
+/// Returns `true` if the rest of a row's path has the row's result.
+fn rest_holds(alloc: Global, value: &Value, row: &Line) -> Result<bool, Fail> {
+    let (front, answer) = (usize::try_from(row.number(1)?)?, row.text(2)?);
+    let path = path_of(alloc, row.list(0)?)?;
+    let holds = leads_on_to(alloc, front, value, path.as_slice(), answer);
+    drop(path);
+    Ok(holds?)
+}
+
 #[test]
 fn a_walk_may_begin_after_a_path(rt: HostRuntime) -> Result<(), Fail> {
     let alloc = rt.alloc();
     let value = to_value(alloc, &Json::from_str(alloc, r#"{"c": 1, "d": 2}"#)?)?;
-    let known = [ScalarCow::from("a"), ScalarCow::from("d")];
-    holds(
-        leads_on_to(alloc, 1, &value, &known, "2")?,
-        "a walk may begin after one index",
-    )?;
-    holds(
-        leads_on_to(alloc, 2, &value, &known, "c1d2")?,
-        "a walk may begin after all",
-    )?;
-    let unknown = [ScalarCow::from("a"), ScalarCow::from("b")];
-    let refusal =
-        "liquid: Unknown index\n  with:\n    variable=a\n    requested index=b\n    available indexes=c, d\n";
-    holds(
-        leads_on_to(alloc, 1, &value, &unknown, refusal)?,
-        "a refusal tells the whole path",
-    )
+    let answer = rows_hold(alloc, AFTER, |alloc, row| rest_holds(alloc, &value, row));
+    drop(value);
+    answer
 }
 
 /// Returns `true` if the path of a row has the row's error, tried or not.
 fn refusal_holds(alloc: Global, row: &Line) -> Result<bool, Fail> {
     let value = to_value(alloc, row.member(0)?)?;
-    let path = path_of(alloc, row.list(1)?)?;
-    Ok(
-        leads_to(alloc, &value, path.as_slice(), row.text(2)?)?
-            && is_tried_alike(alloc, &value, path.as_slice())?,
-    )
+    let holds = refusal_of(alloc, &value, row);
+    drop(value);
+    holds
+}
+
+/// Returns `true` if the path of a row into this value has the row's error, tried or not.
+fn refusal_of(alloc: Global, value: &Value, row: &Line) -> Result<bool, Fail> {
+    answer_holds(alloc, value, row.list(1)?, row.text(2)?)
 }
 
 #[test]
@@ -142,7 +166,9 @@ fn paths_are_refused(rt: HostRuntime) -> Result<(), Fail> {
 fn paths_lead_to_values(rt: HostRuntime) -> Result<(), Fail> {
     let alloc = rt.alloc();
     let value = to_value(alloc, &Json::from_str(alloc, VALUES)?)?;
-    rows_hold(alloc, PATHS, |alloc, row| row_holds(alloc, &value, row))
+    let answer = rows_hold(alloc, PATHS, |alloc, row| row_holds(alloc, &value, row));
+    drop(value);
+    answer
 }
 
 /// Values, an index of each, and the text of the item at that number or the member at that text, if there is one.
@@ -156,16 +182,30 @@ const OWN_PARTS: &str = r#"[[10, 20], 1, "20"]
 [{"1": 5}, 1, null]
 ["word", "size", null]"#;
 
-/// Returns `true` if the value of a row has the own part that the row says.
-fn own_part_holds(alloc: Global, row: &Line) -> Result<bool, Fail> {
-    let value = to_value(alloc, row.member(0)?)?;
-    let Value::Scalar(index) = to_value(alloc, row.member(1)?)? else {
+/// Returns `true` if the own part of a value at an index has this text, or if there is neither.
+fn is_own_part(
+    alloc: Global,
+    value: &Value,
+    index: &Value,
+    text: Option<&str>,
+) -> Result<bool, Fail> {
+    let Value::Scalar(index) = index else {
         return Err(Fail::from("an index is no scalar"));
     };
-    match (own_part(&value, &index), row.found_text(2)) {
+    match (own_part(value, index), text) {
         (Some(part), Some(text)) => Ok(part.to_kstr(alloc)?.as_str() == text),
         (part, text) => Ok(part.is_none() && text.is_none()),
     }
+}
+
+/// Returns `true` if the value of a row has the own part that the row says.
+fn own_part_holds(alloc: Global, row: &Line) -> Result<bool, Fail> {
+    let index = to_value(alloc, row.member(1)?)?;
+    let value = to_value(alloc, row.member(0)?)?;
+    let holds = is_own_part(alloc, &value, &index, row.found_text(2));
+    drop(value);
+    drop(index);
+    holds
 }
 
 #[test]
@@ -214,22 +254,31 @@ fn path_shows(alloc: Global, path: &Path<'_>, text: &str) -> Result<bool, AllocE
 fn is_copied(path: &mut Path<'static>) -> Result<bool, AllocError> {
     let copy = path.clone()?;
     let is_equal = copy == *path;
-    path.push("x")?;
-    Ok(is_equal && copy != *path)
+    let pushed = path.push("x");
+    let is_other = copy != *path;
+    drop(copy);
+    pushed?;
+    Ok(is_equal && is_other)
 }
 
-#[test]
-fn a_path_is_a_list_of_indexes(rt: HostRuntime) -> Result<(), Fail> {
-    let alloc = rt.alloc();
-    let mut path = user_path(alloc)?;
+/// Fails if the path `user.-3.name` isn't a list of its indexes.
+fn has_its_indexes(alloc: Global, path: &mut Path<'static>) -> Result<(), Fail> {
     holds(
-        path_shows(alloc, &path, "user.-3.name")?,
+        path_shows(alloc, path, "user.-3.name")?,
         "the path shows its indexes",
     )?;
     holds(path.iter().len() == 3, "the path has three indexes")?;
     holds(
-        is_copied(&mut path)?,
+        is_copied(path)?,
         "the copy equals the path until an index more is there",
     )?;
     holds(path.as_slice().len() == 4, "the path has four indexes")
+}
+
+#[test]
+fn a_path_is_a_list_of_indexes(rt: HostRuntime) -> Result<(), Fail> {
+    let mut path = user_path(rt.alloc())?;
+    let answer = has_its_indexes(rt.alloc(), &mut path);
+    drop(path);
+    answer
 }

@@ -153,23 +153,31 @@ fn frame_holds<R: Runtime>(alloc: Global, frame: &R) -> Result<bool, AllocError>
 /// Returns `true` if a sandbox with `b` over a runtime, and a frame with `c` over that, show and hide names.
 fn frames_hold(alloc: Global, runtime: &mut BuiltRuntime<Marks, ()>) -> Result<bool, AllocError> {
     let sandbox = SandboxedStackFrame::new(runtime, numbers(alloc, &[("b", 2)])?);
-    let is_hidden = hides_a(alloc, &sandbox)?;
+    let is_hidden = hides_a(alloc, &sandbox);
     let frame = StackFrame::new(sandbox, numbers(alloc, &[("c", 3)])?);
-    Ok(is_hidden && frame_holds(alloc, &frame)?)
+    let holds = frame_holds(alloc, &frame);
+    drop(frame);
+    Ok(is_hidden? && holds?)
+}
+
+/// Fails if frames over a runtime with `a` don't show and hide names, or leave `a` hidden.
+fn show_and_hide_names(alloc: Global, runtime: &mut BuiltRuntime<Marks, ()>) -> Result<(), Fail> {
+    holds(frames_hold(alloc, runtime)?, "frames show and hide names")?;
+    holds(is_name(alloc, runtime, "a", "1")?, "`a` is seen again")
+}
+
+/// Runs the same over a runtime of its own.
+fn show_and_hide(alloc: Global, lenient: bool) -> Result<(), Fail> {
+    let mut runtime = built(alloc, &[("a", 1)], lenient)?;
+    let answer = show_and_hide_names(alloc, &mut runtime);
+    drop(runtime);
+    answer
 }
 
 #[test]
 fn frames_show_and_hide_names(rt: HostRuntime) -> Result<(), Fail> {
-    let alloc = rt.alloc();
-    for lenient in [false, true] {
-        let mut runtime = built(alloc, &[("a", 1)], lenient)?;
-        holds(
-            frames_hold(alloc, &mut runtime)?,
-            "frames show and hide names",
-        )?;
-        holds(is_name(alloc, &runtime, "a", "1")?, "`a` is seen again")?;
-    }
-    Ok(())
+    show_and_hide(rt.alloc(), false)?;
+    show_and_hide(rt.alloc(), true)
 }
 
 /// Sets a global to a number, and returns its old value.
@@ -195,25 +203,27 @@ fn is_new<R: Runtime>(
 /// Returns `true` if a frame with `test` hides the global of that name.
 fn is_hidden(alloc: Global, runtime: &mut BuiltRuntime<Marks, ()>) -> Result<bool, AllocError> {
     let frame = StackFrame::new(runtime, numbers(alloc, &[("test", 3)])?);
-    is_name(alloc, &frame, "test", "3")
+    let is_hidden = is_name(alloc, &frame, "test", "3");
+    drop(frame);
+    is_hidden
+}
+
+/// Fails unless a frame hides a new global while it is open.
+fn hide_a_global(alloc: Global, runtime: &mut BuiltRuntime<Marks, ()>) -> Result<(), Fail> {
+    holds(is_new(alloc, runtime, "test", 42)?, "the global is new")?;
+    holds(is_hidden(alloc, runtime)?, "the frame hides the global")?;
+    holds(
+        is_name(alloc, runtime, "test", "42")?,
+        "the global is seen again",
+    )
 }
 
 #[test]
 fn a_frame_hides_a_global_while_it_is_open(rt: HostRuntime) -> Result<(), Fail> {
-    let alloc = rt.alloc();
-    let mut runtime = built(alloc, &[], false)?;
-    holds(
-        is_new(alloc, &mut runtime, "test", 42)?,
-        "the global is new",
-    )?;
-    holds(
-        is_hidden(alloc, &mut runtime)?,
-        "the frame hides the global",
-    )?;
-    holds(
-        is_name(alloc, &runtime, "test", "42")?,
-        "the global is seen again",
-    )
+    let mut runtime = built(rt.alloc(), &[], false)?;
+    let answer = hide_a_global(rt.alloc(), &mut runtime);
+    drop(runtime);
+    answer
 }
 
 /// Sets `test` to 43, and returns whether it was 42.
@@ -236,7 +246,9 @@ fn page_hides_global<R: Runtime>(alloc: Global, page: &mut R) -> Result<bool, Er
 fn sets_below_page(alloc: Global, runtime: &mut BuiltRuntime<Marks, ()>) -> Result<bool, Error> {
     let frame = StackFrame::new(runtime, numbers(alloc, &[("test", 3)])?);
     let mut page = frame.with_name(text(alloc, "page")?);
-    page_hides_global(alloc, &mut page)
+    let hides = page_hides_global(alloc, &mut page);
+    drop(page);
+    hides
 }
 
 /// Returns `true` if the globals have the numbers that were set below a frame.
@@ -244,26 +256,26 @@ fn has_globals<R: Runtime>(alloc: Global, runtime: &R) -> Result<bool, AllocErro
     Ok(is_name(alloc, runtime, "test", "43")? && is_name(alloc, runtime, "global", "5")?)
 }
 
-#[test]
-fn a_global_is_set_below_a_frame(rt: HostRuntime) -> Result<(), Fail> {
-    let alloc = rt.alloc();
-    let mut runtime = built(alloc, &[], false)?;
+/// Fails unless globals are set below a frame.
+fn set_below_a_frame(alloc: Global, runtime: &mut BuiltRuntime<Marks, ()>) -> Result<(), Fail> {
+    holds(is_new(alloc, runtime, "test", 42)?, "the global is new")?;
     holds(
-        is_new(alloc, &mut runtime, "test", 42)?,
-        "the global is new",
-    )?;
-    holds(
-        sets_below_page(alloc, &mut runtime)?,
+        sets_below_page(alloc, runtime)?,
         "globals are set below the frame",
     )?;
-    holds(
-        has_globals(alloc, &runtime)?,
-        "the globals are what was set",
-    )?;
+    holds(has_globals(alloc, runtime)?, "the globals are what was set")?;
     holds(
         runtime.name().is_none() && runtime.depth() == 32,
         "the runtime has no name, and its depth",
     )
+}
+
+#[test]
+fn a_global_is_set_below_a_frame(rt: HostRuntime) -> Result<(), Fail> {
+    let mut runtime = built(rt.alloc(), &[], false)?;
+    let answer = set_below_a_frame(rt.alloc(), &mut runtime);
+    drop(runtime);
+    answer
 }
 
 /// Returns `true` if a sandbox has its own registers, which are then marked.
@@ -294,7 +306,9 @@ fn is_a_sandbox<R: Runtime<Register = Marks>>(
 /// Returns `true` if a sandbox over a runtime is one.
 fn sandbox_holds(alloc: Global, runtime: &mut BuiltRuntime<Marks, u8>) -> Result<bool, Error> {
     let mut sandbox = SandboxedStackFrame::new(runtime, Object::new(alloc));
-    is_a_sandbox(alloc, &mut sandbox)
+    let is_a_sandbox = is_a_sandbox(alloc, &mut sandbox);
+    drop(sandbox);
+    is_a_sandbox
 }
 
 /// Returns `true` if the registers are as they were before the sandbox: unmarked, with one interrupt.
@@ -304,28 +318,34 @@ fn keeps_registers<R: Runtime<Register = Marks>>(runtime: &mut R) -> bool {
         && !runtime.registers().interrupt.interrupted()
 }
 
-#[test]
-fn registers_and_index_variables(rt: HostRuntime) -> Result<(), Fail> {
-    let alloc = rt.alloc();
-    let mut runtime = RuntimeBuilder::<Marks, u8>::new(alloc)
-        .set_depth(3)
-        .set_partials(9)
-        .build();
-    runtime.registers_mut().interrupt.set(Interrupt::Break);
+/// Fails unless a sandbox has registers of its own and sets an index variable below.
+fn keep_registers(alloc: Global, runtime: &mut BuiltRuntime<Marks, u8>) -> Result<(), Fail> {
     holds(
-        sandbox_holds(alloc, &mut runtime)?,
+        sandbox_holds(alloc, runtime)?,
         "a sandbox has registers of its own",
     )?;
     holds(
         runtime.try_get_name("i").is_some(),
         "the index variable is set below",
     )?;
-    holds(keeps_registers(&mut runtime), "the registers are kept")?;
+    holds(keeps_registers(runtime), "the registers are kept")?;
     holds(runtime.depth() == 3, "the depth is the one that was set")?;
     holds(
         runtime.partials() == Some(&mut 9),
         "the partials are those that were set",
     )
+}
+
+#[test]
+fn registers_and_index_variables(rt: HostRuntime) -> Result<(), Fail> {
+    let mut runtime = RuntimeBuilder::<Marks, u8>::new(rt.alloc())
+        .set_depth(3)
+        .set_partials(9)
+        .build();
+    runtime.registers_mut().interrupt.set(Interrupt::Break);
+    let answer = keep_registers(rt.alloc(), &mut runtime);
+    drop(runtime);
+    answer
 }
 
 /// Returns `true` if a name was not set, and its error has a text.

@@ -158,12 +158,24 @@ fn a_stranger_sees_the_visitor_and_no_secret(rt: HostRuntime) -> Result<(), Fail
     keeps_its_secret(rt.alloc(), host::<()>(rt.alloc(), secret))
 }
 
+/// Renders `leak` over a runtime.
+fn leak<R>(alloc: Global, runtime: &mut R, sink: &mut TextSink) -> Result<(), Error>
+where
+    R: Runtime<Store = ()>,
+{
+    let language = leaky_language(alloc)?;
+    let answer = render_source(alloc, "{% leak s 1 %}", &language, runtime, sink);
+    drop(language);
+    answer
+}
+
 /// Returns what `leak` writes under a sandboxed frame without names over a host.
 fn leaked<R: Runtime<Store = ()> + Drop>(alloc: Global, host: R) -> Result<String, Fail> {
-    let language = leaky_language(alloc)?;
     let mut sandbox = SandboxedStackFrame::new(host, Object::new(alloc));
     let mut sink = TextSink::new(alloc);
-    render_source(alloc, "{% leak s 1 %}", &language, &mut sandbox, &mut sink)?;
+    let answer = leak(alloc, &mut sandbox, &mut sink);
+    drop(sandbox);
+    answer?;
     Ok(sink.into_string()?)
 }
 
