@@ -77,23 +77,36 @@ fn holds_by(alloc: Global, row: &Row, template: &Page, call: Rendering) -> Resul
     }
 }
 
-/// Returns `true` if a row passes with each call that renders a template.
-fn row_holds(alloc: Global, row: &Row) -> Result<bool, Fail> {
-    let template = page(alloc, steps(row, "steps")?)?;
+/// Returns `true` if a row's template passes with each call that renders it.
+fn holds_by_each(alloc: Global, row: &Row, template: &Page) -> Result<bool, Fail> {
     for call in RENDERINGS {
-        if !holds_by(alloc, row, &template, call)? {
+        if !holds_by(alloc, row, template, call)? {
             return Ok(false);
         }
     }
     Ok(true)
 }
 
+/// Returns `true` if a row passes with each call that renders a template.
+fn row_holds(alloc: Global, row: &Row) -> Result<bool, Fail> {
+    let template = page(alloc, steps(row, "steps")?)?;
+    let holds = holds_by_each(alloc, row, &template);
+    drop(template);
+    holds
+}
+
+/// Returns `true` if a row passes with strict names and with lenient ones.
+fn row_holds_in_both(alloc: Global, row: Row) -> Result<bool, Fail> {
+    let is_strict = row_holds(alloc, &row);
+    let row = row.leniently();
+    let is_lenient = row_holds(alloc, &row);
+    drop(row);
+    Ok(is_strict? & is_lenient?)
+}
+
 /// Returns `true` if the row of a line passes with strict names and with lenient ones.
 fn line_holds(alloc: Global, line: &str) -> Result<bool, Fail> {
-    let row = Row::of(alloc, line)?;
-    let is_strict = row_holds(alloc, &row)?;
-    let is_lenient = row_holds(alloc, &row.leniently())?;
-    Ok(is_strict & is_lenient)
+    row_holds_in_both(alloc, Row::of(alloc, line)?)
 }
 
 /// Fails for the first row of a table that does not pass with strict names and with lenient ones.
@@ -122,7 +135,9 @@ fn writes<R: Runtime<Register = (), Store = ()>>(
     wanted: &str,
 ) -> Result<(), Fail> {
     let template = page_in(alloc, steps)?;
-    same(rendered(alloc, &template, runtime)?.as_str(), wanted)
+    let all = rendered(alloc, &template, runtime);
+    drop(template);
+    same(all?.as_str(), wanted)
 }
 
 /// Does the same over a runtime that is built.
@@ -132,7 +147,9 @@ fn writes_over(
     mut runtime: BuiltRuntime<(), ()>,
     wanted: &str,
 ) -> Result<(), Fail> {
-    writes(alloc, steps, &mut runtime, wanted)
+    let answer = writes(alloc, steps, &mut runtime, wanted);
+    drop(runtime);
+    answer
 }
 
 #[test]
@@ -169,7 +186,9 @@ where
         assign(alloc, &mut outside)?;
     }
     let mut sandbox = SandboxedStackFrame::new(outside, Object::new(alloc));
-    writes(alloc, r#"[["leak", "s", 1]]"#, &mut sandbox, wanted)
+    let answer = writes(alloc, r#"[["leak", "s", 1]]"#, &mut sandbox, wanted);
+    drop(sandbox);
+    answer
 }
 
 #[test]
@@ -227,26 +246,30 @@ fn row_drips<R>(alloc: Global, row: &Line, runtime: &mut R) -> Result<(), Fail>
 where
     R: Runtime<Register = (), Store = ()>,
 {
-    let sink = Dripping::new(alloc, u64::try_from(row.number(1)?)?);
+    let (puts, wanted) = (u64::try_from(row.number(1)?)?, row.text(2)?);
     let template = page(alloc, row.list(0)?)?;
-    drips(alloc, &template, sink, runtime, row.text(2)?)
+    let answer = drips(alloc, &template, Dripping::new(alloc, puts), runtime, wanted);
+    drop(template);
+    answer
 }
 
 /// Fails for the first row that does not pass, and if a runtime is not left as their templates left it.
-fn rows_drip<R>(alloc: Global, mut runtime: R) -> Result<(), Fail>
+fn rows_drip<R>(alloc: Global, runtime: &mut R) -> Result<(), Fail>
 where
-    R: Runtime<Register = (), Store = ()> + Drop,
+    R: Runtime<Register = (), Store = ()>,
 {
     for line in SINK_ROWS.lines() {
-        row_drips(alloc, &Line::of(alloc, line)?, &mut runtime)?;
+        row_drips(alloc, &Line::of(alloc, line)?, runtime)?;
     }
-    writes(alloc, r#"[["shown", "g"]]"#, &mut runtime, "1")
+    writes(alloc, r#"[["shown", "g"]]"#, runtime, "1")
 }
 
 #[test]
 fn a_sink_that_fails_leaves_what_was_set_before(rt: HostRuntime) -> Result<(), Fail> {
-    let alloc = rt.alloc();
-    rows_drip(alloc, no_names(alloc))
+    let mut runtime = no_names(rt.alloc());
+    let answer = rows_drip(rt.alloc(), &mut runtime);
+    drop(runtime);
+    answer
 }
 
 /// Returns the nodes, with `.` after them.
@@ -267,8 +290,9 @@ fn around(
 /// Fails for a node that writes something else, with `.` after it.
 fn ends(alloc: Global, node: HostileElement, wanted: &str) -> Result<(), Fail> {
     let template = Template::new(before_a_point(alloc, node)?);
-    let all = rendered(alloc, &template, &mut no_names(alloc))?;
-    same(all.as_str(), wanted)
+    let all = rendered(alloc, &template, &mut no_names(alloc));
+    drop(template);
+    same(all?.as_str(), wanted)
 }
 
 #[test]
