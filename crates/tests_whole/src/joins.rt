@@ -175,7 +175,7 @@ fn joins_of_three_pieces_find_memory(rt: HostRuntime) -> Result<(), Fail> {
 }
 
 /// Texts with what they are rendered as.
-const ROWS: [(&str, Option<&str>); 7] = [
+static ROWS: [(&str, Option<&str>); 7] = [
     ("a {{ a }}", Some("a 1")),
     ("a {{- 5 -}}", Some("a5")),
     ("{% box %}a{% endbox %}", Some("[a]")),
@@ -206,12 +206,22 @@ where
     }
 }
 
-#[test]
-fn some_joins_come_to_what_they_mean(rt: HostRuntime) -> Result<(), Fail> {
-    let alloc = rt.alloc();
-    let language = language(alloc)?;
-    for (text, wanted) in ROWS {
-        holds(is_meant(alloc, &language, text, wanted)?, text)?;
+/// Fails for the first text that is not rendered as its row says.
+fn are_meant<F, T, B>(alloc: Global, language: &Language<F, T, B>) -> Result<(), Fail>
+where
+    F: ParseFilter + Drop,
+    T: ParseTag<F> + Drop,
+    B: ParseBlock<F> + Drop,
+    T::Node: Renderable<()>,
+    B::Node: Renderable<()>,
+{
+    for (text, wanted) in &ROWS {
+        holds(is_meant(alloc, language, text, *wanted)?, text)?;
     }
     Ok(())
+}
+
+#[test]
+fn some_joins_come_to_what_they_mean(rt: HostRuntime) -> Result<(), Fail> {
+    are_meant(rt.alloc(), &language(rt.alloc())?)
 }

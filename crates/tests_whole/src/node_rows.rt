@@ -1,6 +1,6 @@
 //! Templates of nodes made by hand, with their results.
 use crate::given::no_names;
-use crate::nodes::{HostileElement, Page, page, page_in, text, written};
+use crate::nodes::{HostileElement, Page, Same, page, page_in, text, written};
 use crate::pages::{Over, over, without_partials};
 use crate::renderings::{RENDERINGS, Rendering, is_rendered, rendered};
 use bench::blocks::BlockNode;
@@ -97,11 +97,11 @@ fn row_holds(alloc: Global, row: &Row) -> Result<bool, Fail> {
 
 /// Returns `true` if a row passes with strict names and with lenient ones.
 fn row_holds_in_both(alloc: Global, row: Row) -> Result<bool, Fail> {
-    let is_strict = row_holds(alloc, &row);
+    let is_strict = row_holds(alloc, &row)?;
     let row = row.leniently();
     let is_lenient = row_holds(alloc, &row);
     drop(row);
-    Ok(is_strict? & is_lenient?)
+    Ok(is_strict & is_lenient?)
 }
 
 /// Returns `true` if the row of a line passes with strict names and with lenient ones.
@@ -248,7 +248,13 @@ where
 {
     let (puts, wanted) = (u64::try_from(row.number(1)?)?, row.text(2)?);
     let template = page(alloc, row.list(0)?)?;
-    let answer = drips(alloc, &template, Dripping::new(alloc, puts), runtime, wanted);
+    let answer = drips(
+        alloc,
+        &template,
+        Dripping::new(alloc, puts),
+        runtime,
+        wanted,
+    );
     drop(template);
     answer
 }
@@ -272,24 +278,27 @@ fn a_sink_that_fails_leaves_what_was_set_before(rt: HostRuntime) -> Result<(), F
     answer
 }
 
-/// Returns the nodes, with `.` after them.
-fn before_a_point(alloc: Global, node: HostileElement) -> Result<Vec<HostileElement>, AllocError> {
-    Ok(vec![in alloc; node, written(alloc, ".")?]?)
+/// Returns the template of a node, and `.` after it.
+fn before_a_point<T: Drop, B: Drop>(
+    alloc: Global,
+    node: Node<Same, T, B>,
+) -> Result<Template<Same, T, B>, AllocError> {
+    Ok(Template::new(vec![in alloc; node, written(alloc, ".")?]?))
 }
 
 /// Returns a block whose one part is a text.
-fn around(
+fn around<T: Drop, B: Drop>(
     alloc: Global,
-    block: HostileBlockNode,
+    block: B,
     piece: &str,
-) -> Result<HostileElement, AllocError> {
+) -> Result<Node<Same, T, B>, AllocError> {
     let part = vec![in alloc; written(alloc, piece)?]?;
     Ok(Node::Block(block, vec![in alloc; part]?))
 }
 
 /// Fails for a node that writes something else, with `.` after it.
 fn ends(alloc: Global, node: HostileElement, wanted: &str) -> Result<(), Fail> {
-    let template = Template::new(before_a_point(alloc, node)?);
+    let template = before_a_point(alloc, node)?;
     let all = rendered(alloc, &template, &mut no_names(alloc));
     drop(template);
     same(all?.as_str(), wanted)

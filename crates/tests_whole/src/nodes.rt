@@ -207,15 +207,30 @@ fn take(
     }
 }
 
+/// Takes the steps one after another.
+fn take_all(
+    alloc: Global,
+    steps: &Vec<Json>,
+    list: &mut Vec<Element>,
+    open: &mut Vec<Open<Element>>,
+) -> Result<(), Fail> {
+    for step in steps {
+        take(alloc, step, list, open)?;
+    }
+    Ok(())
+}
+
 /// Returns the template of a list of steps. A step is a word and its arguments. A block's parts are between `begin` and
 /// `end`, divided by `mid`, and `end` names the block.
 pub(crate) fn page(alloc: Global, steps: &Vec<Json>) -> Result<Page, Fail> {
     let mut list = Vec::new(alloc);
     let mut open = Vec::new(alloc);
-    for step in steps {
-        take(alloc, step, &mut list, &mut open)?;
+    let answer = take_all(alloc, steps, &mut list, &mut open);
+    drop(open);
+    match answer {
+        Ok(()) => Ok(Template::new(list)),
+        Err(fail) => Err(fail),
     }
-    Ok(Template::new(list))
 }
 
 /// Returns the template of a text of JSON that is a list of steps.

@@ -46,11 +46,12 @@ fn twice(alloc: Global, text: &str) -> Result<String, AllocError> {
 
 /// Renders to a writer the text, a name and the text again.
 fn render_twice<W: Write>(alloc: Global, text: &str, writer: &mut W) -> Result<(), Fail> {
-    let mut runtime = runtime_of(alloc, r#"{"name": "World"}"#)?;
     let source = twice(alloc, text)?;
+    let mut runtime = runtime_of(alloc, r#"{"name": "World"}"#)?;
     let mut sink = WriterSink::new(writer);
     let answer = render(alloc, source.as_str(), &mut runtime, &mut sink);
     let _ = sink.into_inner();
+    drop(runtime);
     Ok(answer?)
 }
 
@@ -151,7 +152,9 @@ const DRIPS: &str = r#"[0, "Hello", "", "liquid: Failed to render\n"]
 /// Returns `true` if a row is true over names whose values are empty.
 fn keeps_the_beginning(alloc: Global, drip: &Line) -> Result<bool, Fail> {
     let mut runtime = runtime_of(alloc, r#"{"x": "", "y": null}"#)?;
-    drips(alloc, drip, &mut runtime)
+    let drips = drips(alloc, drip, &mut runtime);
+    drop(runtime);
+    drips
 }
 
 #[test]
