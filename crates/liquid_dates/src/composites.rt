@@ -125,7 +125,7 @@ fn write_clock_of_12(out: &mut String, date_time: DateTime) -> Result<(), AllocE
     ensures { OnOk result
         (string_bytes out.new ≡ string_bytes out.old ++ Spec.clock_of_12 date_time) }
 {
-    let time = date_time.local().to_plain().time;
+    let time = date_time.local().time;
     write_two(out, hour_of_12(time))?;
     out.push_str(":")?;
     write_two(out, time.minute)?;
@@ -193,7 +193,7 @@ fn write_named_day(out: &mut String, case: Case, date_time: DateTime) -> Result<
     ensures { OnOk result
         (string_bytes out.new ≡ string_bytes out.old ++ Spec.named_day case date_time) }
 {
-    let date = date_time.local().to_plain().date;
+    let date = date_time.local().date;
     write_cased(out, short_weekday_name(date.weekday().index()), case)?;
     out.push_str(" ")?;
     write_short_month(out, case, date_time)?;
@@ -205,9 +205,5 @@ fn write_short_month(out: &mut String, case: Case, date_time: DateTime) -> Resul
     ensures { OnOk result (string_bytes out.new
         ≡ string_bytes out.old ++ cased case (Names.short_month_name (civil_date date_time).month)) }
 {
-    write_cased(
-        out,
-        short_month_name(date_time.local().to_plain().date.month),
-        case,
-    )
+    write_cased(out, short_month_name(date_time.local().date.month), case)
 }

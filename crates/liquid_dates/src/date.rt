@@ -6,7 +6,8 @@ ghost use Rattle.jiff_core.specs.Date.{ordinal};
 ghost use Rattle.liquid_dates.specs.meaning.IsoWeek.{iso_week};
 
 use crate::DateError;
-use jiff::civil;
+use jiff_core::civil;
+use jiff_core::civil::ISOWeekDate;
 use std::marker::Model;
 
 /// A day of the calendar, from -9999-01-01 to 9999-12-31.
@@ -35,39 +36,38 @@ impl Date {
             return Err(DateError::PartOutOfRange);
         }
         let year = year as i16;
-        if day > jiff_core::civil::days_in_month(year, month) {
+        if day > civil::days_in_month(year, month) {
             return Err(DateError::PartOutOfRange);
         }
-        let plain = jiff_core::civil::Date { year, month, day };
-        Ok(Date::from_civil(civil::Date::from_plain(plain)))
+        Ok(Date::from_civil(civil::Date { year, month, day }))
     }
 
     /// Returns the year.
     pub fn year(&self) -> i32
         ensures { result ≡ self.now.year }
     {
-        i32::from(self.inner.year())
+        i32::from(self.inner.year)
     }
 
     /// Returns the month, from 1.
     pub fn month(&self) -> u8
         ensures { result ≡ self.now.month }
     {
-        self.inner.to_plain().month
+        self.inner.month
     }
 
     /// Returns the day of the month, from 1.
     pub fn day(&self) -> u8
         ensures { result ≡ self.now.day }
     {
-        self.inner.to_plain().day
+        self.inner.day
     }
 
     /// Returns the day of the year, from 1.
     pub fn ordinal(&self) -> u16
         ensures { result ≡ ordinal self.now }
     {
-        self.inner.to_plain().day_of_year()
+        self.inner.day_of_year()
     }
 
     /// Returns the week of the ISO 8601 year, from 1.
@@ -75,7 +75,7 @@ impl Date {
     pub fn iso_week(&self) -> u8
         ensures { result ≡ iso_week self.now }
     {
-        self.inner.iso_week_date().to_plain().week
+        ISOWeekDate::from_date(self.inner).week
     }
 
     /// Returns the date of a civil date.

@@ -18,8 +18,7 @@ ghost use Rattle.liquid_dates.specs.meaning.Instant.{IsClockTime, HasParts, IsIn
 
 use crate::printed::Rfc2822;
 use crate::{Date, DateError};
-use jiff::civil;
-use jiff::tz::Offset;
+use jiff_core::{Offset, civil};
 use std::alloc::Global;
 use std::cmp::Ordering;
 use std::hash::{Hash, Hasher};
@@ -37,7 +36,7 @@ fn shifted(date_time: DateTime, offset: Offset) -> i128
     ensures value { result ≡ instant date_time +ℤ nanos_of_seconds offset.seconds }
     ensures bound { IsWithin 1_000_000_000_000_000_000_000 result }
 {
-    date_time.instant() + offset.to_plain().to_nanosecond()
+    date_time.instant() + offset.to_nanosecond()
 }
 
 impl DateTime {
@@ -52,7 +51,10 @@ impl DateTime {
     {
         let date = Date::from_ymd(year, month, day)?;
         Ok(DateTime {
-            local: civil::DateTime::from_parts(date.to_civil(), civil::Time::MIN),
+            local: civil::DateTime {
+                date: date.to_civil(),
+                time: civil::Time::MIN,
+            },
             offset: Offset::UTC,
         })
     }
@@ -76,15 +78,18 @@ impl DateTime {
         if hour > 23 || minute > 59 || second > 59 || nanosecond > 999_999_999 {
             return Err(DateError::PartOutOfRange);
         }
-        let time = jiff_core::civil::Time {
+        let time = civil::Time {
             hour,
             minute,
             second,
             subsec_nanosecond: nanosecond,
         };
-        match Offset::from_seconds(offset) {
+        match Offset::from_seconds(i64::from(offset)) {
             Ok(offset) => Ok(DateTime {
-                local: civil::DateTime::from_parts(date.to_civil(), civil::Time::from_plain(time)),
+                local: civil::DateTime {
+                    date: date.to_civil(),
+                    time,
+                },
                 offset,
             }),
             Err(_) => Err(DateError::PartOutOfRange),
@@ -100,9 +105,9 @@ impl DateTime {
         ensures offset { IfOk result (λ dt. offset_seconds dt ≡ pos 0) }
         ensures err { IfErr result (λ e. e ≡ DateError.OutsideYears) }
     {
-        match jiff_core::civil::DateTime::from_nanosecond(unix_nanoseconds) {
+        match civil::DateTime::from_nanosecond(unix_nanoseconds) {
             Ok(local) => Ok(DateTime {
-                local: civil::DateTime::from_plain(local),
+                local,
                 offset: Offset::UTC,
             }),
             Err(_) => Err(DateError::OutsideYears),
@@ -116,7 +121,10 @@ impl DateTime {
         ensures offset { offset_seconds result ≡ offset_seconds self }
     {
         DateTime {
-            local: civil::DateTime::from_parts(date.to_civil(), self.local.time()),
+            local: civil::DateTime {
+                date: date.to_civil(),
+                time: self.local.time,
+            },
             offset: self.offset,
         }
     }
@@ -133,7 +141,7 @@ impl DateTime {
         ensures offset { IfOk result (λ dt. offset_seconds dt ≡ seconds) }
         ensures err { IfErr result (λ e. IsOffsetRefusal seconds e) }
     {
-        match Offset::from_seconds(seconds) {
+        match Offset::from_seconds(i64::from(seconds)) {
             Ok(offset) => self.at_offset(offset),
             Err(_) => Err(DateError::PartOutOfRange),
         }
@@ -148,11 +156,8 @@ impl DateTime {
         ensures err { IfErr result (λ e. e ≡ DateError.OutsideYears) }
     {
         let local = shifted(self, offset);
-        match jiff_core::civil::DateTime::from_nanosecond(local) {
-            Ok(local) => Ok(DateTime {
-                local: civil::DateTime::from_plain(local),
-                offset,
-            }),
+        match civil::DateTime::from_nanosecond(local) {
+            Ok(local) => Ok(DateTime { local, offset }),
             Err(_) => Err(DateError::OutsideYears),
         }
     }
@@ -176,7 +181,7 @@ impl DateTime {
         ensures value { result ≡ instant self }
         ensures bound { IsInstant result }
     {
-        self.local.to_plain().to_nanosecond() - self.offset.to_plain().to_nanosecond()
+        self.local.to_nanosecond() - self.offset.to_nanosecond()
     }
 
     /// Returns whole seconds since 1970-01-01 00:00:00 +0000.
@@ -184,42 +189,42 @@ impl DateTime {
     pub(crate) fn unix_seconds(self) -> i64
         ensures { result ≡ unix_seconds self }
     {
-        self.local.to_plain().to_second() - i64::from(self.offset.to_plain().seconds)
+        self.local.to_second() - i64::from(self.offset.seconds)
     }
 
     /// Returns the civil date.
     pub fn date(self) -> Date
         ensures { result ≡ civil_date self }
     {
-        Date::from_civil(self.local.date())
+        Date::from_civil(self.local.date)
     }
 
     /// Returns the year.
     pub fn year(&self) -> i32
         ensures { result ≡ (civil_date self.now).year }
     {
-        i32::from(self.local.year())
+        i32::from(self.local.date.year)
     }
 
     /// Returns the month, from 1.
     pub fn month(&self) -> u8
         ensures { result ≡ (civil_date self.now).month }
     {
-        self.local.to_plain().date.month
+        self.local.date.month
     }
 
     /// Returns the day of the month, from 1.
     pub fn day(&self) -> u8
         ensures { result ≡ (civil_date self.now).day }
     {
-        self.local.to_plain().date.day
+        self.local.date.day
     }
 
     /// Returns the day of the year, from 1.
     pub fn ordinal(&self) -> u16
         ensures { result ≡ ordinal (civil_date self.now) }
     {
-        self.local.to_plain().date.day_of_year()
+        self.local.date.day_of_year()
     }
 
     /// Returns the week of the ISO 8601 year, from 1.
@@ -233,28 +238,28 @@ impl DateTime {
     pub fn hour(&self) -> u8
         ensures { result ≡ (civil_time self.now).hour }
     {
-        self.local.to_plain().time.hour
+        self.local.time.hour
     }
 
     /// Returns the minute of the hour.
     pub fn minute(&self) -> u8
         ensures { result ≡ (civil_time self.now).minute }
     {
-        self.local.to_plain().time.minute
+        self.local.time.minute
     }
 
     /// Returns the second of the minute.
     pub fn second(&self) -> u8
         ensures { result ≡ (civil_time self.now).second }
     {
-        self.local.to_plain().time.second
+        self.local.time.second
     }
 
     /// Returns the nanosecond of the second.
     pub fn nanosecond(&self) -> u32
         ensures { result ≡ nanosecond self.now }
     {
-        self.local.to_plain().time.subsec_nanosecond
+        self.local.time.subsec_nanosecond
     }
 
     /// Returns how far the clock is ahead of UTC, in seconds.
@@ -262,7 +267,7 @@ impl DateTime {
         ensures value { result ≡ offset_seconds self.now }
         ensures bound { IsOffsetSeconds result }
     {
-        self.offset.to_plain().seconds
+        self.offset.seconds
     }
 
     /// Returns what the clock shows.
@@ -281,9 +286,7 @@ impl Default for DateTime {
     #[tactic(auto, using(crate::proofs::InstantLemmas::instant_is))]
     fn default() -> DateTime {
         DateTime {
-            local: civil::DateTime::from_plain(jiff_core::civil::DateTime::from_nanosecond_in_range(
-                0,
-            )),
+            local: civil::DateTime::from_nanosecond_in_range(0),
             offset: Offset::UTC,
         }
     }

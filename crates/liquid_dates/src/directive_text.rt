@@ -121,7 +121,7 @@ fn name_of(case: Case, name: Name, date_time: DateTime) -> (&'static str, Case)
     ensures value { cased result.1 result.0.now ≡ Spec.name_of case name date_time }
     ensures ascii { is_ascii_text result.0.now ≡ true }
 {
-    let local = date_time.local().to_plain();
+    let local = date_time.local();
     match name {
         Name::ShortMonth => (short_month_name(local.date.month), case),
         Name::WholeMonth => (month_name(local.date.month), case),

@@ -14,7 +14,7 @@ use jiff_core::civil::{Date, ISOWeekDate, Time};
 pub(crate) fn number_value(number: Number, date_time: DateTime) -> i64
     ensures { result ≡ Spec.number_value number date_time }
 {
-    let local = date_time.local().to_plain();
+    let local = date_time.local();
     match number {
         Number::Year => i64::from(local.date.year),
         Number::Century => i64::from(local.date.year) / 100,

@@ -14,7 +14,7 @@ impl fmt::Display for Date {
     ghost output = { λ d. Some (Spec.date_text d) };
 
     fn fmt<W: fmt::Write>(&self, f: &mut fmt::Formatter<W>) -> fmt::Result {
-        date(f, self.to_civil().to_plain())
+        date(f, self.to_civil())
     }
 }
 
@@ -30,7 +30,7 @@ impl fmt::Display for DateTime {
     ghost output = { λ dt. Some (Spec.date_time_text dt) };
 
     fn fmt<W: fmt::Write>(&self, f: &mut fmt::Formatter<W>) -> fmt::Result {
-        let local = self.local().to_plain();
+        let local = self.local();
         date(f, local.date)?;
         f.write_str(" ")?;
         clock(f, local.time)?;
@@ -58,7 +58,7 @@ impl fmt::Display for Rfc2822 {
     ghost output = { λ r. Some (Spec.rfc2822_text r.date_time) };
 
     fn fmt<W: fmt::Write>(&self, f: &mut fmt::Formatter<W>) -> fmt::Result {
-        let local = self.date_time.local().to_plain();
+        let local = self.date_time.local();
         mail_date(f, local.date)?;
         f.write_str(" ")?;
         clock(f, local.time)?;

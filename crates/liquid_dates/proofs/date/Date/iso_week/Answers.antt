@@ -6,6 +6,5 @@ use Rattle.liquid_dates.proofs.date.Date.iso_week.Goals as goal
 
 pub returns : goal.returns
 returns c =
-    let same : iso_epoch_day c.to_plain.result ≡ epoch_day c.args.self.now =
-    cc (c.to_plain.ensures, c.iso_week_date.ensures, c.self.view_is) in
-    (week_date_is c.args.self.now c.to_plain.result same).1
+    let same : iso_epoch_day c.from_date.result ≡ epoch_day c.args.self.now = cc (c.from_date.ensures, c.self.view_is) in
+    (week_date_is c.args.self.now c.from_date.result same).1

@@ -1,5 +1,4 @@
-use Rattle.std.proofs.Common.{arith, ap, ◌∙◌, refl}
-use Rattle.jiff_core.specs.DateTime.{civil_nanos}
+use Rattle.std.proofs.Common.{arith, refl}
 use Rattle.jiff_core.proofs.SignedLemmas.{signed_arith}
 use Rattle.liquid_dates.proofs.InstantLemmas.{instant_is}
 use Rattle.liquid_dates.proofs.date_time.DateTime.at_offset.Goals as goal
@@ -16,5 +15,4 @@ returns-in-Ok-clause-succeeds c =
 
 pub returns-in-Ok-clause-instant : goal.returns-in-Ok-clause-instant
 returns-in-Ok-clause-instant c =
-    let local = ap civil_nanos c.from_plain.ensures ∙ c.in-Ok.ensures.value in
-    rw instant_is (omega (arith, signed_arith, local, c.shifted-local.ensures.value))
+    rw instant_is (omega (arith, signed_arith, c.in-Ok.ensures.value, c.shifted-local.ensures.value))
