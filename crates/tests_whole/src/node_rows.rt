@@ -283,7 +283,10 @@ fn before_a_point<T: Drop, B: Drop>(
     alloc: Global,
     node: Node<Same, T, B>,
 ) -> Result<Template<Same, T, B>, AllocError> {
-    Ok(Template::new(vec![in alloc; node, written(alloc, ".")?]?))
+    let mut nodes = Vec::new(alloc);
+    nodes.push(node)?;
+    nodes.push(written(alloc, ".")?)?;
+    Ok(Template::new(nodes))
 }
 
 /// Returns a block whose one part is a text.
@@ -292,8 +295,11 @@ fn around<T: Drop, B: Drop>(
     block: B,
     piece: &str,
 ) -> Result<Node<Same, T, B>, AllocError> {
-    let part = vec![in alloc; written(alloc, piece)?]?;
-    Ok(Node::Block(block, vec![in alloc; part]?))
+    let mut part = Vec::new(alloc);
+    part.push(written(alloc, piece)?)?;
+    let mut parts = Vec::new(alloc);
+    parts.push(part)?;
+    Ok(Node::Block(block, parts))
 }
 
 /// Fails for a node that writes something else, with `.` after it.
