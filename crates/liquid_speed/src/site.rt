@@ -91,7 +91,7 @@ struct Site {
 }
 
 /// Returns the site of that many posts.
-fn site(alloc: Global, posts: u32) -> Result<Site, Problem> {
+fn open_site(alloc: Global, posts: u32) -> Result<Site, Problem> {
     let language = shared_language(alloc)?;
     let page = page(alloc, posts, &language)?;
     Ok(Site { language, page })
@@ -192,7 +192,7 @@ fn site_time(rt: &HostRuntime, posts: u32, site: &Site) -> Result<u128, Problem>
 
 /// Returns how many nanoseconds the parsed page of that many posts takes to be rendered.
 pub fn render_time(rt: &HostRuntime, posts: u32) -> Result<u128, Problem> {
-    let site = site(rt.alloc(), posts)?;
+    let site = open_site(rt.alloc(), posts)?;
     let time = site_time(rt, posts, &site);
     drop(site);
     time
@@ -249,7 +249,7 @@ fn least_time_over(rt: &HostRuntime, posts: u32, site: &Site, form: Form) -> Res
 
 /// Measures the same by `render_in`, over scopes of this form.
 pub fn time_over(rt: &HostRuntime, posts: u32, form: Form) -> Result<u128, Problem> {
-    let site = site(rt.alloc(), posts)?;
+    let site = open_site(rt.alloc(), posts)?;
     let time = least_time_over(rt, posts, &site, form);
     drop(site);
     time
