@@ -9,8 +9,6 @@ mod names;
 mod problem;
 mod site;
 
-use liquid_core::runtime::{ChainedScopes, FlatScopes};
-use names::Base;
 use problem::Problem;
 use site::Form;
 use std::env;
@@ -83,8 +81,8 @@ fn time_of(rt: &HostRuntime, measure: Measure, size: u32) -> Result<u128, Proble
         Measure::Parse => site::parse_time(rt, size),
         Measure::Render => site::render_time(rt, size),
         Measure::Over(form) => site::time_over(rt, size, form),
-        Measure::Name(Form::Flat) => names::time::<FlatScopes<Base>>(rt, size),
-        Measure::Name(Form::Chained) => names::time::<ChainedScopes<Base>>(rt, size),
+        Measure::Name(Form::Flat) => names::flat_time(rt, size),
+        Measure::Name(Form::Chained) => names::chained_time(rt, size),
     }
 }
 

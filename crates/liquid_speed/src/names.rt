@@ -3,7 +3,9 @@ ghost use Rattle.std.specs.Prelude.{◌≡◌};
 
 use crate::problem::Problem;
 use liquid_core::model::ScalarCow;
-use liquid_core::runtime::{BuiltRuntime, Frame, RuntimeBuilder, Scopes};
+use liquid_core::runtime::{
+    BuiltRuntime, ChainedScopes, FlatScopes, Frame, RuntimeBuilder, Scopes,
+};
 use liquid_core::{Object, Value};
 use std::alloc::{AllocError, Global};
 use std::time::{Clock, Instant};
@@ -24,7 +26,7 @@ fn names(alloc: Global) -> Result<Vec<String>, AllocError> {
 }
 
 /// A runtime without partials.
-pub type Base = BuiltRuntime<(), ()>;
+type Base = BuiltRuntime<(), ()>;
 
 /// Returns a runtime with these names.
 fn base(alloc: Global) -> Result<Base, AllocError> {
@@ -79,12 +81,22 @@ fn under<S: Scopes, C: Clock>(
 }
 
 /// Measures the same over a base without frames.
-pub fn time<S: Scopes<Base = Base, Register = (), Store = ()>>(
-    rt: &HostRuntime,
-    frames: u32,
-) -> Result<u128, Problem> {
-    let mut scopes = S::new(rt.alloc(), base(rt.alloc())?);
+fn time<S: Scopes>(rt: &HostRuntime, base: S::Base, frames: u32) -> Result<u128, Problem>
+where
+    S::Base: Drop,
+{
+    let mut scopes = S::new(rt.alloc(), base);
     let answer = under(rt.alloc(), rt, &mut scopes, frames);
     drop(scopes.into_base());
     answer
+}
+
+/// Returns how many nanoseconds a lookup takes in flat scopes under that many frames.
+pub fn flat_time(rt: &HostRuntime, frames: u32) -> Result<u128, Problem> {
+    time::<FlatScopes<Base>>(rt, base(rt.alloc())?, frames)
+}
+
+/// Returns how many nanoseconds a lookup takes in chained scopes under that many frames.
+pub fn chained_time(rt: &HostRuntime, frames: u32) -> Result<u128, Problem> {
+    time::<ChainedScopes<Base>>(rt, base(rt.alloc())?, frames)
 }
