@@ -247,7 +247,8 @@ fn least_time_over(rt: &HostRuntime, posts: u32, site: &Site, form: Form) -> Res
     Ok(best)
 }
 
-/// Measures the same by `render_in`, over scopes of this form.
+/// Returns the least number of nanoseconds in which `render_in` renders the page of a site with that many posts, over
+/// scopes of this form.
 pub fn time_over(rt: &HostRuntime, posts: u32, form: Form) -> Result<u128, Problem> {
     let site = open_site(rt.alloc(), posts)?;
     let time = least_time_over(rt, posts, &site, form);

@@ -227,17 +227,20 @@ fn owned_scalars_are_the_same(rt: HostRuntime) -> Result<(), Fail> {
     is_cow_str(alloc, text, "abc")
 }
 
-/// Returns `true` if a scalar is as another one strictly.
-fn is(left: &ScalarCow<'_>, right: ScalarCow<'_>) -> bool {
+/// Returns `true` if two scalars are strictly equal.
+fn is_strictly(left: &ScalarCow<'_>, right: ScalarCow<'_>) -> bool {
     *left == right
 }
 
 /// Fails unless a borrowed scalar of the text `k` and its copy are as others of that text.
 fn is_borrowed(alloc: Global, borrowed: &ScalarCow<'_>, copy: &ScalarCow<'_>) -> Result<(), Fail> {
-    holds(is(borrowed, ScalarCow::new("k")), "a borrowed text")?;
+    holds(
+        is_strictly(borrowed, ScalarCow::new("k")),
+        "a borrowed text",
+    )?;
     holds(copy.scalar_eq(borrowed), "its copy")?;
     let moved = ScalarCow::new(String::from_str(alloc, "k")?);
-    holds(is(copy, moved), "an owned text")
+    holds(is_strictly(copy, moved), "an owned text")
 }
 
 #[test]

@@ -163,24 +163,34 @@ fn named(alloc: Global) -> Result<Object, Fail> {
     }
 }
 
-fn is(alloc: Global, value: Value, text: &str) -> Result<bool, Fail> {
+/// Returns `true` if a value is what a JSON text means.
+fn is_json(alloc: Global, value: Value, text: &str) -> Result<bool, Fail> {
     Ok(value_in(alloc, text)? == value)
 }
 
 fn is_owned(alloc: Global, cow: ValueCow<'static>, text: &str) -> Result<bool, Fail> {
-    is(alloc, cow.into_owned()?, text)
+    is_json(alloc, cow.into_owned()?, text)
 }
 
 #[test]
 fn conversions_keep_the_value(rt: HostRuntime) -> Result<(), Fail> {
     let alloc = rt.alloc();
-    holds(is(alloc, Value::default(), "null")?, "nil")?;
-    holds(is(alloc, Value::from(items(alloc)?), ITEMS)?, "an array")?;
-    holds(is(alloc, Value::from(named(alloc)?), NAMED)?, "an object")?;
-    holds(is(alloc, Value::from(State::Blank), BLANK)?, "a state")?;
-    holds(is(alloc, Value::from(Scalar::Integer(1)), "1")?, "a scalar")?;
+    holds(is_json(alloc, Value::default(), "null")?, "nil")?;
+    holds(
+        is_json(alloc, Value::from(items(alloc)?), ITEMS)?,
+        "an array",
+    )?;
+    holds(
+        is_json(alloc, Value::from(named(alloc)?), NAMED)?,
+        "an object",
+    )?;
+    holds(is_json(alloc, Value::from(State::Blank), BLANK)?, "a state")?;
+    holds(
+        is_json(alloc, Value::from(Scalar::Integer(1)), "1")?,
+        "a scalar",
+    )?;
     let ones = items(alloc)?.into_iter();
-    holds(is(alloc, Value::array(alloc, ones)?, ITEMS)?, "items")
+    holds(is_json(alloc, Value::array(alloc, ones)?, ITEMS)?, "items")
 }
 
 #[test]
