@@ -315,15 +315,27 @@ fn moments_have_parts(_rt: HostRuntime) -> Result<(), Fail> {
     )
 }
 
+/// Returns `true` if a moment on another date has that date.
+fn is_on(moment: DateTime, date: Date) -> bool {
+    moment.with_date(date).date() == date
+}
+
 #[test]
-fn moments_are_changed(_rt: HostRuntime) -> Result<(), Fail> {
-    let moment = november()?;
-    let new_year = Date::from_ymd(2021, 1, 3)?;
+fn a_moment_is_put_on_another_date(_rt: HostRuntime) -> Result<(), Fail> {
     holds(
-        moment.with_date(new_year).date() == new_year,
+        is_on(november()?, Date::from_ymd(2021, 1, 3)?),
         "another date",
-    )?;
-    holds(moment.with_offset(0)? == moment, "another offset")?;
+    )
+}
+
+#[test]
+fn a_moment_is_the_same_with_another_offset(_rt: HostRuntime) -> Result<(), Fail> {
+    let moment = november()?;
+    holds(moment.with_offset(0)? == moment, "another offset")
+}
+
+#[test]
+fn now_is_the_default_without_a_clock(_rt: HostRuntime) -> Result<(), Fail> {
     holds(
         DateTime::now(0)? == DateTime::default(),
         "now, without a clock",

@@ -69,11 +69,18 @@ fn an_error_is_placed_once(rt: HostRuntime) -> Result<(), Fail> {
     )
 }
 
+/// Returns a clone of an error as the cause of another one.
+fn cloned_cause(alloc: Global) -> Result<CauseOf<Error>, AllocError> {
+    let kept = CloneableError::new(alloc, Error::with_msg(alloc, "a"))?;
+    let copy: Result<CloneableError, AllocError> = kept.clone();
+    drop(kept);
+    Ok(CauseOf::Cloneable(copy?))
+}
+
 /// Returns an error with two causes, one below the other.
 fn caused(alloc: Global) -> Result<Error, AllocError> {
-    let kept = CloneableError::new(alloc, Error::with_msg(alloc, "a"))?;
-    let middle = Error::with_msg(alloc, "b").cause(CauseOf::Cloneable(kept.clone()?));
-    let middle = Box::new(alloc, middle)?;
+    let last = cloned_cause(alloc)?;
+    let middle = Box::new(alloc, Error::with_msg(alloc, "b").cause(last))?;
     Ok(Error::with_msg(alloc, "c").cause(CauseOf::Error(middle)))
 }
 
