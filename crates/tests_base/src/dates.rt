@@ -283,12 +283,16 @@ fn mail_has_a_form_of_its_own(rt: HostRuntime) -> Result<(), Fail> {
         Some(mail) => same(
             mail.to_rfc2822(alloc)?.as_str(),
             "Tue, 16 Feb 2016 10:00:00 +0100",
-        )?,
-        None => return Err(Fail::from("no date time")),
+        ),
+        None => Err(Fail::from("no date time")),
     }
+}
+
+#[test]
+fn a_year_before_0_has_no_form_for_mail(rt: HostRuntime) -> Result<(), Fail> {
     let early = DateTime::from_ymd(-20, 6, 13)?.with_offset(-1830)?;
     holds(
-        early.to_rfc2822(alloc).err() == Some(DateError::NoRfc2822Form),
+        early.to_rfc2822(rt.alloc()).err() == Some(DateError::NoRfc2822Form),
         "a year before 0",
     )
 }

@@ -42,7 +42,7 @@ fn errors_have_places(rt: HostRuntime) -> Result<(), Fail> {
 }
 
 #[test]
-fn want_of_memory_stays_so(rt: HostRuntime) -> Result<(), Fail> {
+fn out_of_memory_stays_so(rt: HostRuntime) -> Result<(), Fail> {
     let alloc = rt.alloc();
     let starved = Error::Memory.trace(alloc, "a").context(alloc, "k", "v");
     holds(starved.is_memory(), "out of memory")?;

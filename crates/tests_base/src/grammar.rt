@@ -294,17 +294,27 @@ fn repeated(alloc: Global, text: &str, times: usize, end: &str) -> Result<String
     Ok(whole)
 }
 
+/// Returns a name in a hundred pairs of brackets.
+fn bracketed(alloc: Global) -> Result<String, AllocError> {
+    let closed = repeated(alloc, "]", 100, "")?;
+    let text = repeated(alloc, "a[", 100, "a")?;
+    repeated(alloc, text.as_str(), 1, closed.as_str())
+}
+
 #[test]
 fn a_hundred_brackets(rt: HostRuntime) -> Result<(), Fail> {
-    let closed = repeated(rt.alloc(), "]", 100, "")?;
-    let text = repeated(rt.alloc(), "a[", 100, "a")?;
-    let whole = repeated(rt.alloc(), text.as_str(), 1, closed.as_str())?;
+    let whole = bracketed(rt.alloc())?;
     holds(
         leaves("value", whole.as_str(), Some(""))?,
         "a hundred brackets",
-    )?;
-    let inner = repeated(rt.alloc(), "b[", 1, whole.as_str())?;
-    let deeper = repeated(rt.alloc(), inner.as_str(), 1, "]")?;
+    )
+}
+
+#[test]
+fn one_bracket_more_is_too_deep(rt: HostRuntime) -> Result<(), Fail> {
+    let alloc = rt.alloc();
+    let inner = repeated(alloc, "b[", 1, bracketed(alloc)?.as_str())?;
+    let deeper = repeated(alloc, inner.as_str(), 1, "]")?;
     match match_value(deeper.as_str()) {
         Some((Some(fault), "")) => {
             let is_too_deep = fault.kind == FaultKind::NestedTooDeep;
