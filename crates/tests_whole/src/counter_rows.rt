@@ -1,6 +1,6 @@
 //! Counters near the greatest whole number.
 use crate::given::no_names;
-use crate::languages::library_language;
+use crate::library_language::library_language;
 use crate::renderings::rendered;
 use liquid_core::model::{Value, ValueRender};
 use liquid_core::parser::parse;

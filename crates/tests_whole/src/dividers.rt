@@ -1,5 +1,6 @@
 //! Dividers with tokens, and dividers where none is allowed.
-use crate::languages::{library_tables_hold, plain_tables_hold};
+use crate::languages::plain_tables_hold;
+use crate::library_language::library_tables_hold;
 use std::test::Fail;
 
 /// A divider of the test plug-ins takes no token.

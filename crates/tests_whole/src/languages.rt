@@ -1,4 +1,4 @@
-//! The languages that rows are in, and tables of rows in the two that most tests use.
+//! The languages of the test plug-ins, and tables of rows in them.
 use crate::pages::{Table, tables_hold};
 use bench::{Blocks, Filters, HostileBlocks, HostileTags, Tags};
 use liquid_core::parser::Language;
@@ -16,14 +16,6 @@ pub(crate) fn plain_language(alloc: Global) -> Result<Rc<PlainLanguage>, AllocEr
 /// The language of plug-ins that are malicious.
 pub(crate) type HostileLanguage = Language<Filters, HostileTags, HostileBlocks>;
 
-pub(crate) type LibraryLanguage = Language<Filters, liquid_tags::Tags, liquid_tags::Blocks>;
-
-/// Returns the library's language with the filters of the tests.
-pub(crate) fn library_language(alloc: Global) -> Result<Rc<LibraryLanguage>, AllocError> {
-    let filters = bench::languages::filters(alloc)?;
-    Ok(Rc::new(alloc, liquid_tags::language(alloc, filters)?)?)
-}
-
 /// Fails for the first row of tables in the language of the test plug-ins that does not pass. With `each_store`, over each
 /// kind of store.
 pub(crate) fn plain_tables_hold(
@@ -32,15 +24,6 @@ pub(crate) fn plain_tables_hold(
     each_store: bool,
 ) -> Result<(), Fail> {
     tables_hold(alloc, tables, each_store, &plain_language(alloc)?)
-}
-
-/// Does the same in the language of the tag library.
-pub(crate) fn library_tables_hold(
-    alloc: Global,
-    tables: &[Table<'_>],
-    each_store: bool,
-) -> Result<(), Fail> {
-    tables_hold(alloc, tables, each_store, &library_language(alloc)?)
 }
 
 /// Fails for the first row of a table in a language of malicious plug-ins that does not pass.

@@ -25,6 +25,8 @@ mod kinds;
 #[cfg(test)]
 mod languages;
 #[cfg(test)]
+mod library_language;
+#[cfg(test)]
 mod library_reflections;
 #[cfg(test)]
 mod limits;

@@ -1,6 +1,6 @@
 //! Templates with the tags and blocks of the library.
 use crate::kinds::source;
-use crate::languages::library_tables_hold;
+use crate::library_language::library_tables_hold;
 use crate::pages::{globals, is_told};
 use liquid_core::TextSink;
 use liquid_tags::render_page;
