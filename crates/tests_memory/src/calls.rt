@@ -12,6 +12,7 @@ mod paths;
 mod plugins;
 mod runtimes;
 mod scopes;
+mod texts;
 mod trials;
 mod values;
 mod wanted;

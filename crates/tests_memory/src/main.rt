@@ -16,8 +16,9 @@ mod rows;
 use growths::Seen;
 use problem::Problem;
 use std::alloc::Global;
-use std::env;
+use std::fmt::Display;
 use std::process::ExitCode;
+use std::{env, io};
 
 /// The groups of calls; every other name is a row's.
 const GROUPS: [&str; 9] = [
@@ -42,23 +43,44 @@ fn tried(alloc: Global, case: &str) -> Result<Seen, Problem> {
     }
 }
 
+/// Writes the outcome of a case.
+fn write_outcome<D: Display>(rt: &HostRuntime, case: &str, outcome: &D) -> Result<(), Problem> {
+    Ok(rt.print(format_args!("{case}: {outcome}\n"))?)
+}
+
 /// Makes the call of a case, and writes its outcome.
 fn tell(rt: &HostRuntime, case: &str) -> Result<(), Problem> {
     match tried(rt.alloc(), case) {
-        Ok(seen) => rt.print(format_args!("{case}: {seen}\n"))?,
-        Err(problem) => rt.print(format_args!("{case}: {problem}\n"))?,
+        Ok(seen) => write_outcome(rt, case, &seen),
+        Err(problem) => write_outcome(rt, case, &problem),
+    }
+}
+
+/// Makes the call of a line, and writes its outcome.
+fn tell_line(rt: &HostRuntime, line: io::Result<String>) -> Result<(), Problem> {
+    match line {
+        Ok(case) => tell(rt, case.as_str()),
+        Err(error) => Err(Problem::from(error)),
+    }
+}
+
+fn serve_arguments(rt: &HostRuntime) -> Result<(), Problem> {
+    for case in env::args(rt)?.skip(1) {
+        tell(rt, case.as_str())?;
+    }
+    Ok(())
+}
+
+fn serve_lines(rt: &HostRuntime) -> Result<(), Problem> {
+    for line in rt.lines(rt.alloc()) {
+        tell_line(rt, line)?;
     }
     Ok(())
 }
 
 fn serve(rt: &HostRuntime) -> Result<(), Problem> {
-    for case in env::args(rt)?.skip(1) {
-        tell(rt, case.as_str())?;
-    }
-    for line in rt.lines(rt.alloc()) {
-        tell(rt, line?.as_str())?;
-    }
-    Ok(())
+    serve_arguments(rt)?;
+    serve_lines(rt)
 }
 
 fn main(rt: HostRuntime) -> ExitCode {

@@ -56,6 +56,52 @@ where
     }
 }
 
+/// Makes the call of a row over a compiler that compiles all partials first, or each when it is requested.
+fn called_otherwise<F, T, B>(
+    alloc: Global,
+    row: &Row,
+    language: &Rc<Language<F, T, B>>,
+    word: &str,
+    boxes: usize,
+) -> Result<Seen, Problem>
+where
+    F: ParseFilter + Drop,
+    T: ParseTag<F> + Drop,
+    B: ParseBlock<F> + Drop,
+    T::Node: Discreet<()>,
+    B::Node: Discreet<()>,
+{
+    match word {
+        "compile_eager" | "get_eager" => {
+            called::<EagerCompiler<InMemorySource>, F, T, B>(alloc, row, language, word, boxes)
+        }
+        _ => called::<OnDemandCompiler<InMemorySource>, F, T, B>(alloc, row, language, word, boxes),
+    }
+}
+
+/// Makes the call of a row over the compiler that the call names, or over the lazy one.
+fn called_over<F, T, B>(
+    alloc: Global,
+    row: &Row,
+    language: &Rc<Language<F, T, B>>,
+    word: &str,
+    boxes: usize,
+) -> Result<Seen, Problem>
+where
+    F: ParseFilter + Drop,
+    T: ParseTag<F> + Drop,
+    B: ParseBlock<F> + Drop,
+    T::Node: Discreet<()>,
+    B::Node: Discreet<()>,
+{
+    match word {
+        "compile_eager" | "get_eager" | "compile_on_demand" | "get_on_demand" => {
+            called_otherwise(alloc, row, language, word, boxes)
+        }
+        _ => called::<LazyCompiler<InMemorySource>, F, T, B>(alloc, row, language, word, boxes),
+    }
+}
+
 /// Makes the call of a row in a language, after that many boxes.
 fn called_in<F, T, B>(
     alloc: Global,
@@ -72,15 +118,7 @@ where
     B::Node: Discreet<()>,
 {
     let language = Rc::new(alloc, language)?;
-    let seen = match word {
-        "compile_eager" | "get_eager" => {
-            called::<EagerCompiler<InMemorySource>, F, T, B>(alloc, row, &language, word, boxes)
-        }
-        "compile_on_demand" | "get_on_demand" => {
-            called::<OnDemandCompiler<InMemorySource>, F, T, B>(alloc, row, &language, word, boxes)
-        }
-        _ => called::<LazyCompiler<InMemorySource>, F, T, B>(alloc, row, &language, word, boxes),
-    };
+    let seen = called_over(alloc, row, &language, word, boxes);
     drop(language);
     seen
 }

@@ -1,32 +1,41 @@
 //! Attempts to read a token, and errors of a token and of a cursor.
 use crate::languages::{Check, check_language};
+use crate::rows::{rows_hold_over, texts_at};
 use crate::tokens::{first_token, tokens_of};
-use crate::told::{displays, told};
-use liquid_core::Error;
+use crate::told::{displays, is_name, tells};
 use liquid_core::parser::{
     Filter, FilterChain, Language, ParseBlock, ParseFilter, ParseTag, PluginRegistry, TagToken,
-    TryMatchToken,
+    TagTokenIter, TryMatchToken,
 };
 use liquid_core::runtime::Renderable;
-use std::alloc::{AllocError, Global};
+use std::alloc::Global;
 use std::test::Fail;
-use tests_lines::{Line, holds, rows_hold};
+use tests_lines::{Line, rows_hold};
 
-/// Returns the text of a token that is not a chain.
-fn no_chain(alloc: Global, token: TagToken<'_>) -> Result<String, AllocError> {
-    format!(in alloc; "no chain: {}", token.as_str())
-}
-
-/// Returns `true` if an attempt at a chain has one that shows this text, or has this text because it failed.
+/// Returns `true` if an attempt at a chain has one that shows this text, or if this is the text of a token that is no
+/// chain.
 fn is_chain_or_text<X: Filter>(
     alloc: Global,
-    attempt: TryMatchToken<'_, FilterChain<X>>,
+    attempt: &TryMatchToken<'_, FilterChain<X>>,
     text: &str,
-) -> Result<bool, AllocError> {
+) -> Result<bool, Fail> {
     match attempt {
-        TryMatchToken::Matches(chain) => displays(alloc, &chain, text),
-        TryMatchToken::Fails(token) => Ok(no_chain(alloc, token)?.as_str() == text),
+        TryMatchToken::Matches(chain) => displays(alloc, chain, text),
+        TryMatchToken::Fails(token) => Ok(text.strip_prefix("no chain: ") == Some(token.as_str())),
     }
+}
+
+/// Returns `true` if a token shows the chain or the text that is given.
+fn is_tried_as<F: ParseFilter + Drop>(
+    alloc: Global,
+    token: TagToken<'_>,
+    text: &str,
+    filters: &PluginRegistry<F>,
+) -> Result<bool, Fail> {
+    let attempt = token.expect_filter_chain(alloc, filters)?;
+    let is_so = is_chain_or_text(alloc, &attempt, text);
+    drop(attempt);
+    is_so
 }
 
 /// Returns `true` if a row's tag shows the chain or the text of the row.
@@ -35,9 +44,8 @@ fn is_tried<F: ParseFilter + Drop>(
     row: &Line,
     filters: &PluginRegistry<F>,
 ) -> Result<bool, Fail> {
-    let (tag, text) = (row.text(0)?, row.text(1)?);
-    let attempt = first_token(alloc, tag)?.expect_filter_chain(alloc, filters)?;
-    Ok(is_chain_or_text(alloc, attempt, text)?)
+    let (tag, text) = texts_at(row, 0, 1)?;
+    is_tried_as(alloc, first_token(alloc, tag)?, text, filters)
 }
 
 /// A tag, and what its first token shows as a chain, or the token if it is not one.
@@ -60,11 +68,7 @@ impl Check for TriedChains {
         T::Node: Renderable<()>,
         B::Node: Renderable<()>,
     {
-        for row in CHAINS.lines() {
-            let is_tried = is_tried(alloc, &Line::of(alloc, row)?, &language.filters)?;
-            holds(is_tried, row)?;
-        }
-        Ok(())
+        rows_hold_over(alloc, CHAINS, &language.filters, is_tried)
     }
 }
 
@@ -73,56 +77,71 @@ fn chains_of_filters_are_tried(rt: HostRuntime) -> Result<(), Fail> {
     check_language(rt.alloc(), &TriedChains)
 }
 
-/// Returns a tag's first token as a name, or the first line of its error.
-fn name_or_refusal(alloc: Global, text: &str) -> Result<String, Error> {
-    let attempt = first_token(alloc, text)?.expect_identifier();
-    Ok(match attempt.into_result(alloc) {
-        Ok(name) => String::from_str(alloc, name)?,
-        Err(error) => told(alloc, &error)?,
-    })
+/// Returns `true` if a token is this name, or its error has this first line.
+fn is_identifier(alloc: Global, token: TagToken<'_>, text: &str) -> Result<bool, Fail> {
+    is_name(alloc, token.expect_identifier().into_result(alloc), text)
 }
 
 /// Does the same with a message of the plug-in's own.
-fn name_or_message(alloc: Global, text: &str) -> Result<String, Error> {
-    let attempt = first_token(alloc, text)?.expect_identifier();
-    Ok(
-        match attempt.into_result_custom_msg(alloc, "A name, please") {
-            Ok(name) => String::from_str(alloc, name)?,
-            Err(error) => told(alloc, &error)?,
-        },
+fn is_identifier_or_message(alloc: Global, token: TagToken<'_>, text: &str) -> Result<bool, Fail> {
+    let attempt = token.expect_identifier();
+    is_name(
+        alloc,
+        attempt.into_result_custom_msg(alloc, "A name, please"),
+        text,
     )
 }
 
-/// Returns the first line of an error about a tag's first token.
-fn refused_token(alloc: Global, text: &str) -> Result<String, Error> {
-    let error = first_token(alloc, text)?.raise_custom_error(alloc, "No token at all");
-    Ok(told(alloc, &error)?)
+/// Returns `true` if this is the first line of an error about a token.
+fn is_refused(alloc: Global, token: TagToken<'_>, line: &str) -> Result<bool, Fail> {
+    tells(
+        alloc,
+        token.raise_custom_error(alloc, "No token at all"),
+        line,
+    )
 }
 
-/// Returns the first line of an error about a tag's tokens after the first.
-fn refused_after(alloc: Global, text: &str) -> Result<String, Error> {
-    let mut tokens = tokens_of(alloc, text)?;
+/// Returns `true` if this is the first line of an error about the tokens after the first one.
+fn is_refused_after(alloc: Global, mut tokens: TagTokenIter<'_>, line: &str) -> Result<bool, Fail> {
     let _ = tokens.next();
-    Ok(told(alloc, &tokens.raise_error(alloc, "Nothing more"))?)
+    tells(alloc, tokens.raise_error(alloc, "Nothing more"), line)
 }
 
-/// Returns `nothing`, or the first line of the error about the token that is left.
-fn nothing_or_refusal(alloc: Global, text: &str) -> Result<String, Error> {
-    Ok(match tokens_of(alloc, text)?.expect_nothing(alloc) {
-        Ok(()) => String::from_str(alloc, "nothing")?,
-        Err(error) => told(alloc, &error)?,
-    })
+/// Returns `true` if the attempts at a name have the results of a row.
+fn has_names(alloc: Global, row: &Line) -> Result<bool, Fail> {
+    let token = first_token(alloc, row.text(0)?)?;
+    let (name, message) = texts_at(row, 1, 2)?;
+    if is_identifier(alloc, token, name)? {
+        is_identifier_or_message(alloc, token, message)
+    } else {
+        Ok(false)
+    }
+}
+
+/// Returns `true` if the errors about a tag's first token and about the tokens after it are these.
+fn is_refused_as(alloc: Global, tag: &str, line: &str, line_after: &str) -> Result<bool, Fail> {
+    let tokens = tokens_of(alloc, tag)?;
+    let token = first_token(alloc, tag)?;
+    if is_refused(alloc, token, line)? {
+        is_refused_after(alloc, tokens, line_after)
+    } else {
+        Ok(false)
+    }
+}
+
+/// Returns `true` if the errors about a tag's first token and about the tokens after it are those of a row.
+fn has_refusals(alloc: Global, row: &Line) -> Result<bool, Fail> {
+    let (line, line_after) = texts_at(row, 3, 4)?;
+    is_refused_as(alloc, row.text(0)?, line, line_after)
 }
 
 /// Returns `true` if the attempts have the results of a row.
 fn is_attempted(alloc: Global, row: &Line) -> Result<bool, Fail> {
-    let (text, name, message) = (row.text(0)?, row.text(1)?, row.text(2)?);
-    let (refusal, refusal_after) = (row.text(3)?, row.text(4)?);
-    let is_name = name_or_refusal(alloc, text)?.as_str() == name;
-    let has_message = name_or_message(alloc, text)?.as_str() == message;
-    let is_refused = refused_token(alloc, text)?.as_str() == refusal;
-    let is_refused_after = refused_after(alloc, text)?.as_str() == refusal_after;
-    Ok(is_name & has_message & is_refused & is_refused_after)
+    if has_names(alloc, row)? {
+        has_refusals(alloc, row)
+    } else {
+        Ok(false)
+    }
 }
 
 /// A tag; its first token as a name, and the same with a message; errors about the token, and after it.
@@ -135,10 +154,22 @@ fn a_token_that_does_not_match_is_refused(rt: HostRuntime) -> Result<(), Fail> {
     rows_hold(rt.alloc(), ATTEMPTS, is_attempted)
 }
 
+/// Returns `true` if this is `nothing` and no token is left, or if it is the first line of the error.
+fn is_nothing_or_told(
+    alloc: Global,
+    mut tokens: TagTokenIter<'_>,
+    text: &str,
+) -> Result<bool, Fail> {
+    match tokens.expect_nothing(alloc) {
+        Ok(()) => Ok(text == "nothing"),
+        Err(error) => tells(alloc, error, text),
+    }
+}
+
 /// Returns `true` if a row has the result of its tag where it should have no token.
 fn is_nothing_or_refused(alloc: Global, row: &Line) -> Result<bool, Fail> {
-    let (text, answer) = (row.text(0)?, row.text(1)?);
-    Ok(nothing_or_refusal(alloc, text)?.as_str() == answer)
+    let (tag, text) = texts_at(row, 0, 1)?;
+    is_nothing_or_told(alloc, tokens_of(alloc, tag)?, text)
 }
 
 /// A tag, and the result where it should have no token.

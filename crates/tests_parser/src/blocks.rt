@@ -1,6 +1,7 @@
 //! Bodies of blocks, with the nodes that their elements are parsed into.
 use crate::languages::{Check, check_language};
-use crate::told::told;
+use crate::rows::texts_at;
+use crate::told::tells;
 use liquid_core::Error;
 use liquid_core::model::Object;
 use liquid_core::parser::{Filter, Language, Node, ParseBlock, ParseFilter, ParseTag, TagBlock};
@@ -44,40 +45,12 @@ where
     rendered(alloc, block.parse_all(alloc, language)?)
 }
 
-/// Returns the result of a body: its text, or the first line of the error.
-fn parsed<F, T, B>(
-    alloc: Global,
-    body: &str,
-    language: &Language<F, T, B>,
-) -> Result<String, AllocError>
-where
-    F: ParseFilter + Drop,
-    T: ParseTag<F> + Drop,
-    B: ParseBlock<F> + Drop,
-    T::Node: Renderable<()>,
-    B::Node: Renderable<()>,
-{
-    match body_text(alloc, body, language) {
-        Ok(text) => Ok(text),
-        Err(error) => told(alloc, &error),
+/// Takes an answer. Returns `true` if it is this text, or if its error has this first line.
+fn is_text_or_told(alloc: Global, answer: Result<String, Error>, text: &str) -> Result<bool, Fail> {
+    match answer {
+        Ok(answer) => Ok(answer.as_str() == text),
+        Err(error) => tells(alloc, error, text),
     }
-}
-
-/// Returns `true` if a text is the result of a body.
-fn comes_to<F, T, B>(
-    alloc: Global,
-    body: &str,
-    text: &str,
-    language: &Language<F, T, B>,
-) -> Result<bool, AllocError>
-where
-    F: ParseFilter + Drop,
-    T: ParseTag<F> + Drop,
-    B: ParseBlock<F> + Drop,
-    T::Node: Renderable<()>,
-    B::Node: Renderable<()>,
-{
-    Ok(parsed(alloc, body, language)?.as_str() == text)
 }
 
 /// Returns `true` if a row has the result of its body.
@@ -89,7 +62,8 @@ where
     T::Node: Renderable<()>,
     B::Node: Renderable<()>,
 {
-    Ok(comes_to(alloc, row.text(0)?, row.text(1)?, language)?)
+    let (body, text) = texts_at(row, 0, 1)?;
+    is_text_or_told(alloc, body_text(alloc, body, language), text)
 }
 
 /// A body, and its result.
@@ -108,6 +82,21 @@ static BODIES: &str = r#"["{% end %}a", ""]
 ["{% box %}a{% endbox %}\n", "liquid: Unclosed block. {% end %} tag expected. (line 2, column 1)"]
 ["{% end 1 %}", "liquid: Unexpected token (line 1, column 8)"]"#;
 
+/// Fails unless the row of a line has the result of its body.
+fn check_body<F, T, B>(alloc: Global, line: &str, language: &Language<F, T, B>) -> Result<(), Fail>
+where
+    F: ParseFilter + Drop,
+    T: ParseTag<F> + Drop,
+    B: ParseBlock<F> + Drop,
+    T::Node: Renderable<()>,
+    B::Node: Renderable<()>,
+{
+    let row = Line::of(alloc, line)?;
+    let is_parsed = is_parsed(alloc, &row, language);
+    drop(row);
+    holds(is_parsed?, line)
+}
+
 /// Bodies are parsed up to their ends.
 struct UpToTheirEnds;
 
@@ -120,9 +109,8 @@ impl Check for UpToTheirEnds {
         T::Node: Renderable<()>,
         B::Node: Renderable<()>,
     {
-        for row in BODIES.lines() {
-            let is_parsed = is_parsed(alloc, &Line::of(alloc, row)?, language)?;
-            holds(is_parsed, row)?;
+        for line in BODIES.lines() {
+            check_body(alloc, line, language)?;
         }
         Ok(())
     }
@@ -140,12 +128,12 @@ fn boxes(alloc: Global, count: usize) -> Result<String, AllocError> {
     format!(in alloc; "{opened}{closed}{{% end %}}")
 }
 
-/// Returns the length of the result of a body of that many nested boxes.
-fn boxed_length<F, T, B>(
+/// Returns what a body of that many nested boxes writes.
+fn boxed_text<F, T, B>(
     alloc: Global,
     count: usize,
     language: &Language<F, T, B>,
-) -> Result<usize, AllocError>
+) -> Result<String, Error>
 where
     F: ParseFilter + Drop,
     T: ParseTag<F> + Drop,
@@ -154,25 +142,31 @@ where
     B::Node: Renderable<()>,
 {
     let body = boxes(alloc, count)?;
-    Ok(parsed(alloc, body.as_str(), language)?.len())
+    body_text(alloc, body.as_str(), language)
 }
 
-/// Returns `true` if a text is the result of a body of that many nested boxes.
-fn boxed_comes_to<F, T, B>(
+/// Takes an answer. Returns `true` if it is a text of this length.
+fn has_length(answer: Result<String, Error>, length: usize) -> bool {
+    match answer {
+        Ok(text) => text.len() == length,
+        Err(error) => {
+            drop(error);
+            false
+        }
+    }
+}
+
+/// Fails unless 99 boxes in each other write their brackets, and 100 are an error.
+fn check_boxes(
     alloc: Global,
-    count: usize,
-    text: &str,
-    language: &Language<F, T, B>,
-) -> Result<bool, AllocError>
-where
-    F: ParseFilter + Drop,
-    T: ParseTag<F> + Drop,
-    B: ParseBlock<F> + Drop,
-    T::Node: Renderable<()>,
-    B::Node: Renderable<()>,
-{
-    let body = boxes(alloc, count)?;
-    comes_to(alloc, body.as_str(), text, language)
+    fewer: Result<String, Error>,
+    more: Result<String, Error>,
+) -> Result<(), Fail> {
+    let is_parsed = has_length(fewer, 198);
+    let refusal = "liquid: Nested too deep (line 1, column 895)";
+    let is_refused = is_text_or_told(alloc, more, refusal)?;
+    holds(is_parsed, "99 boxes in each other are parsed")?;
+    holds(is_refused, "100 boxes in each other are refused")
 }
 
 /// A cursor counts as one open block.
@@ -187,15 +181,8 @@ impl Check for OpenBlocks {
         T::Node: Renderable<()>,
         B::Node: Renderable<()>,
     {
-        holds(
-            boxed_length(alloc, 99, language)? == 198,
-            "99 boxes in each other are parsed",
-        )?;
-        let refusal = "liquid: Nested too deep (line 1, column 895)";
-        holds(
-            boxed_comes_to(alloc, 100, refusal, language)?,
-            "100 boxes in each other are refused",
-        )
+        let fewer = boxed_text(alloc, 99, language);
+        check_boxes(alloc, fewer, boxed_text(alloc, 100, language))
     }
 }
 

@@ -1,7 +1,8 @@
 //! Chains of filters, made by hand.
-use crate::made::{arguments, expression, part_in, parts_in};
-use crate::runtimes::{Check, check_over};
-use crate::told::displays;
+use crate::made::{Part, arguments_in, expression, part_in, parts_in};
+use crate::rows::rows_hold_over;
+use crate::runtimes::{Check, check_over_both};
+use crate::told::{displays, shows};
 use bench::filters::{AnyFilter, Filters};
 use liquid_core::model::ValueCow;
 use liquid_core::parser::Filter;
@@ -9,19 +10,19 @@ use liquid_core::runtime::Runtime;
 use liquid_core::{Error, ValueView};
 use liquid_plugins::{Expression, FilterChain, ParseFilter};
 use serde_json::Value as Json;
-use std::alloc::{AllocError, Global};
+use std::alloc::Global;
 use std::test::Fail;
-use tests_lines::{Line, holds};
+use tests_lines::Line;
 
-/// Returns `true` if a result is a value that renders as a text, or an error with that text.
-fn is_text(
-    alloc: Global,
-    answer: Result<ValueCow<'_>, Error>,
-    text: &str,
-) -> Result<bool, AllocError> {
+/// Takes a result. Returns `true` if it is a value that renders as a text, or an error with that text.
+fn is_text(alloc: Global, answer: Result<ValueCow<'_>, Error>, text: &str) -> Result<bool, Fail> {
     match answer {
-        Ok(value) => displays(alloc, &value.render(), text),
-        Err(error) => displays(alloc, &error, text),
+        Ok(value) => {
+            let displays = displays(alloc, &value.render(), text);
+            drop(value);
+            displays
+        }
+        Err(error) => shows(alloc, error, text),
     }
 }
 
@@ -48,18 +49,29 @@ pub(crate) fn filter_named(name: Option<&Json>) -> Result<Filters, Fail> {
     }
 }
 
+/// Returns the path of a part and of the indexes that a row gives.
+fn path_of(alloc: Global, part: Part<'_>, given: &Vec<Json>) -> Result<Expression, Fail> {
+    let indexes = parts_in(alloc, given)?;
+    Ok(expression(alloc, part, indexes.as_slice())?)
+}
+
 fn entry_of(alloc: Global, row: &Line) -> Result<Expression, Fail> {
     let part = part_in(row.member(0)?)?;
-    let indexes = parts_in(alloc, row.list(1)?)?;
-    Ok(expression(alloc, part, indexes.as_slice())?)
+    path_of(alloc, part, row.list(1)?)
 }
 
 /// Returns the filter of a name with these arguments.
 fn filter_with(alloc: Global, name: Option<&Json>, given: &Vec<Json>) -> Result<AnyFilter, Fail> {
     let filter = filter_named(name)?;
-    let parts = parts_in(alloc, given)?;
-    let given = arguments(alloc, parts.as_slice())?;
-    Ok(filter.parse(alloc, given)?)
+    Ok(filter.parse(alloc, arguments_in(alloc, given)?)?)
+}
+
+/// Returns the filter of a call: a name, and a list of arguments.
+fn filter_of(alloc: Global, call: &Json) -> Result<AnyFilter, Fail> {
+    match call.get(1) {
+        Some(Json::Array(given)) => filter_with(alloc, call.get(0), given),
+        _ => Err(Fail::from("a filter has no arguments")),
+    }
 }
 
 /// Puts the filters of these calls after others.
@@ -69,10 +81,7 @@ fn push_filters(
     calls: &Vec<Json>,
 ) -> Result<(), Fail> {
     for call in calls {
-        let Some(Json::Array(given)) = call.get(1) else {
-            return Err(Fail::from("a filter has no arguments"));
-        };
-        filters.push(filter_with(alloc, call.get(0), given)?)?;
+        filters.push(filter_of(alloc, call)?)?;
     }
     Ok(())
 }
@@ -86,13 +95,14 @@ fn filters_of(alloc: Global, row: &Line) -> Result<Vec<AnyFilter>, Fail> {
 }
 
 fn chain_of(alloc: Global, row: &Line) -> Result<FilterChain<AnyFilter>, Fail> {
-    let entry = entry_of(alloc, row)?;
-    Ok(FilterChain::new(entry, filters_of(alloc, row)?))
-}
-
-/// Returns `true` if a chain shows the text of its row.
-fn is_shown<X: Filter>(alloc: Global, chain: &FilterChain<X>, row: &Line) -> Result<bool, Fail> {
-    Ok(displays(alloc, chain, row.text(3)?)?)
+    let filters = filters_of(alloc, row)?;
+    match entry_of(alloc, row) {
+        Ok(entry) => Ok(FilterChain::new(entry, filters)),
+        Err(fail) => {
+            drop(filters);
+            Err(fail)
+        }
+    }
 }
 
 /// Returns the result of the chain of a row with strict names, or with lenient ones.
@@ -103,6 +113,16 @@ fn expected(row: &Line, lenient: bool) -> Result<&str, Fail> {
     }
 }
 
+/// Returns `true` if a text is the result of a chain.
+fn comes_to<X: Filter, R: Runtime>(
+    alloc: Global,
+    chain: &FilterChain<X>,
+    text: &str,
+    runtime: &R,
+) -> Result<bool, Fail> {
+    is_text(alloc, chain.evaluate(alloc, runtime), text)
+}
+
 /// Returns `true` if a chain shows the text and has the result of its row.
 fn is_as_told<X: Filter, R: Runtime>(
     alloc: Global,
@@ -110,14 +130,21 @@ fn is_as_told<X: Filter, R: Runtime>(
     row: &Line,
     runtime: &R,
 ) -> Result<bool, Fail> {
-    let text = expected(row, runtime.is_lenient())?;
-    let is_answered = is_text(alloc, chain.evaluate(alloc, runtime), text)?;
-    Ok(is_shown(alloc, chain, row)? & is_answered)
+    let shown = row.text(3)?;
+    let answer = expected(row, runtime.is_lenient())?;
+    if displays(alloc, chain, shown)? {
+        comes_to(alloc, chain, answer, runtime)
+    } else {
+        Ok(false)
+    }
 }
 
 /// Returns `true` if the chain of a row is as the row says.
 fn chain_is_as_told<R: Runtime>(alloc: Global, row: &Line, runtime: &R) -> Result<bool, Fail> {
-    is_as_told(alloc, &chain_of(alloc, row)?, row, runtime)
+    let chain = chain_of(alloc, row)?;
+    let is_as_told = is_as_told(alloc, &chain, row, runtime);
+    drop(chain);
+    is_as_told
 }
 
 /// Chains come to their values.
@@ -125,19 +152,13 @@ struct ComeToValues;
 
 impl Check for ComeToValues {
     fn check<R: Runtime>(&self, alloc: Global, runtime: &R) -> Result<(), Fail> {
-        for row in ROWS.lines() {
-            let is_told = chain_is_as_told(alloc, &Line::of(alloc, row)?, runtime)?;
-            holds(is_told, row)?;
-        }
-        Ok(())
+        rows_hold_over(alloc, ROWS, runtime, chain_is_as_told)
     }
 }
 
 #[test]
 fn chains_come_to_their_values(rt: HostRuntime) -> Result<(), Fail> {
-    let alloc = rt.alloc();
-    check_over(alloc, false, &ComeToValues)?;
-    check_over(alloc, true, &ComeToValues)
+    check_over_both(rt.alloc(), &ComeToValues)
 }
 
 /// Returns `true` if trying gives the value that evaluating gives, or nothing if that is nil because names are lenient.
@@ -148,33 +169,42 @@ fn is_same(tried: &Option<ValueCow<'_>>, value: &ValueCow<'_>, is_lenient: bool)
     }
 }
 
-/// Returns `true` if what was tried is the result, or nothing if that is an error, or is nil because names are lenient.
+/// Takes a result. Returns `true` if what was tried is the result, or nothing if that is an error, or is nil because
+/// names are lenient.
 fn is_alike(
     tried: &Option<ValueCow<'_>>,
     answer: Result<ValueCow<'_>, Error>,
     is_lenient: bool,
 ) -> bool {
     match answer {
-        Ok(value) => is_same(tried, &value, is_lenient),
-        Err(_) => tried.is_none(),
+        Ok(value) => {
+            let is_same = is_same(tried, &value, is_lenient);
+            drop(value);
+            is_same
+        }
+        Err(error) => {
+            drop(error);
+            tried.is_none()
+        }
     }
 }
 
 /// Returns `true` if trying an entry gives what evaluating it does, or nothing if that is an error, or is nil because
 /// names are lenient.
-fn is_tried<R: Runtime>(
-    alloc: Global,
-    entry: &Expression,
-    runtime: &R,
-) -> Result<bool, AllocError> {
+fn is_tried<R: Runtime>(alloc: Global, entry: &Expression, runtime: &R) -> Result<bool, Fail> {
     let tried = entry.try_evaluate(alloc, runtime)?;
     let answer = entry.evaluate(alloc, runtime);
-    Ok(is_alike(&tried, answer, runtime.is_lenient()))
+    let is_alike = is_alike(&tried, answer, runtime.is_lenient());
+    drop(tried);
+    Ok(is_alike)
 }
 
 /// Returns `true` if the entry of a row is tried alike.
 fn entry_is_tried<R: Runtime>(alloc: Global, row: &Line, runtime: &R) -> Result<bool, Fail> {
-    Ok(is_tried(alloc, &entry_of(alloc, row)?, runtime)?)
+    let entry = entry_of(alloc, row)?;
+    let is_tried = is_tried(alloc, &entry, runtime);
+    drop(entry);
+    is_tried
 }
 
 /// What is tried is not refused.
@@ -182,17 +212,11 @@ struct AreTried;
 
 impl Check for AreTried {
     fn check<R: Runtime>(&self, alloc: Global, runtime: &R) -> Result<(), Fail> {
-        for row in ROWS.lines() {
-            let is_tried = entry_is_tried(alloc, &Line::of(alloc, row)?, runtime)?;
-            holds(is_tried, row)?;
-        }
-        Ok(())
+        rows_hold_over(alloc, ROWS, runtime, entry_is_tried)
     }
 }
 
 #[test]
 fn what_is_tried_is_not_refused(rt: HostRuntime) -> Result<(), Fail> {
-    let alloc = rt.alloc();
-    check_over(alloc, false, &AreTried)?;
-    check_over(alloc, true, &AreTried)
+    check_over_both(rt.alloc(), &AreTried)
 }

@@ -1,5 +1,7 @@
 //! Bodies of blocks, with the elements that the cursor returns, and escaped bodies.
-use crate::told::told;
+use crate::rows::texts_at;
+use crate::told::{is_name, tells, told};
+use liquid_core::Error;
 use liquid_core::parser::{BlockElement, TagBlock};
 use std::alloc::{AllocError, Global};
 use std::test::Fail;
@@ -17,28 +19,52 @@ fn shown(alloc: Global, element: BlockElement<'_>) -> Result<String, AllocError>
     format!(in alloc; "{kind} `{text}`{same}")
 }
 
-/// Returns the elements of a body up to its end, and the errors, joined by ` / `.
-fn handed_out(alloc: Global, body: &str) -> Result<String, AllocError> {
+/// Puts a text after others.
+fn push(texts: &mut Vec<String>, text: Result<String, AllocError>) -> Result<(), AllocError> {
+    texts.push(text?)?;
+    Ok(())
+}
+
+/// Takes the next element, or its error. Adds its kind and its text, or the first line of the error, to others.
+fn add_next(
+    alloc: Global,
+    texts: &mut Vec<String>,
+    next: Result<Option<BlockElement<'_>>, Error>,
+) -> Result<(), AllocError> {
+    match next {
+        Ok(Some(element)) => push(texts, shown(alloc, element)),
+        Ok(None) => Ok(()),
+        Err(error) => push(texts, told(alloc, error)),
+    }
+}
+
+/// Adds the elements of a body up to its end, and the errors, to others.
+fn add_elements(alloc: Global, texts: &mut Vec<String>, body: &str) -> Result<(), AllocError> {
     let mut block = TagBlock::new(body, "start", "end");
-    let mut texts = Vec::new(alloc);
     for _ in 0..body.len() {
         match block.next(alloc) {
-            Ok(Some(element)) => texts.push(shown(alloc, element)?)?,
             Ok(None) => {
                 let state = if block.is_closed() { "closed" } else { "open" };
-                texts.push(String::from_str(alloc, state)?)?;
                 block.assert_empty();
-                return texts.join(alloc, " / ");
+                return push(texts, String::from_str(alloc, state));
             }
-            Err(error) => texts.push(told(alloc, &error)?)?,
+            next => add_next(alloc, texts, next)?,
         }
     }
+    Ok(())
+}
+
+/// Returns the elements of a body up to its end, and the errors, joined by ` / `.
+fn handed_out(alloc: Global, body: &str) -> Result<String, AllocError> {
+    let mut texts = Vec::new(alloc);
+    add_elements(alloc, &mut texts, body)?;
     texts.join(alloc, " / ")
 }
 
 /// Returns `true` if a row has the elements of its body.
 fn hands_out(alloc: Global, row: &Line) -> Result<bool, Fail> {
-    Ok(handed_out(alloc, row.text(0)?)?.as_str() == row.text(1)?)
+    let (body, answer) = texts_at(row, 0, 1)?;
+    Ok(handed_out(alloc, body)?.as_str() == answer)
 }
 
 /// A body, and its elements.
@@ -56,38 +82,45 @@ fn elements_are_handed_out_in_their_order(rt: HostRuntime) -> Result<(), Fail> {
     rows_hold(rt.alloc(), HANDED_OUT, hands_out)
 }
 
-/// Returns `true` if a body without its end is an error at its end, and stays open.
-fn is_refused_at_its_end(alloc: Global, block: &mut TagBlock<'_, '_>) -> Result<bool, AllocError> {
+/// Returns `true` if the next element of a body without its end is an error at its end.
+fn is_refused_at_its_end(alloc: Global, block: &mut TagBlock<'_, '_>) -> Result<bool, Fail> {
     let refusal = "liquid: Unclosed block. {% end %} tag expected. (line 2, column 3)";
     match block.next(alloc) {
         Ok(_) => Ok(false),
-        Err(error) => Ok(told(alloc, &error)?.as_str() == refusal && !block.is_closed()),
+        Err(error) => tells(alloc, error, refusal),
     }
 }
 
-#[test]
-fn a_body_without_its_end_is_refused_at_its_end(rt: HostRuntime) -> Result<(), Fail> {
-    let alloc = rt.alloc();
-    let mut block = TagBlock::new("é\nab", "start", "end");
+/// Fails unless a body without its end has a text and then an error at its end, and stays open.
+fn check_end(alloc: Global, block: &mut TagBlock<'_, '_>) -> Result<(), Fail> {
     holds(block.next(alloc)?.is_some(), "the text is handed out")?;
     for _ in 0..2 {
+        let is_refused = is_refused_at_its_end(alloc, block)?;
         holds(
-            is_refused_at_its_end(alloc, &mut block)?,
+            is_refused && !block.is_closed(),
             "the body is refused at its end",
         )?;
     }
     Ok(())
 }
 
-/// Returns the escaped body of a block, or the first line of its error.
-fn escaped(alloc: Global, block: &mut TagBlock<'_, '_>, nests: bool) -> Result<String, AllocError> {
+#[test]
+fn a_body_without_its_end_is_refused_at_its_end(rt: HostRuntime) -> Result<(), Fail> {
+    let mut block = TagBlock::new("é\nab", "start", "end");
+    check_end(rt.alloc(), &mut block)
+}
+
+/// Returns `true` if a text is the escaped body of a block, or the first line of its error.
+fn escapes_to(
+    alloc: Global,
+    block: &mut TagBlock<'_, '_>,
+    nests: bool,
+    text: &str,
+) -> Result<bool, Fail> {
     if block.is_closed() {
-        return String::from_str(alloc, "closed before");
+        return Ok(text == "closed before");
     }
-    match block.escape_liquid(alloc, nests) {
-        Ok(text) => String::from_str(alloc, text),
-        Err(error) => told(alloc, &error),
-    }
+    is_name(alloc, block.escape_liquid(alloc, nests), text)
 }
 
 /// Returns a cursor over the body of a block `raw`, after that many elements.
@@ -99,11 +132,16 @@ fn passed_by<'a>(alloc: Global, body: &'a str, passed: i64) -> TagBlock<'a, 'sta
     block
 }
 
+/// Returns `true` if a row has the result of a block, and says whether the block is closed then.
+fn is_escaped_so(alloc: Global, block: &mut TagBlock<'_, '_>, row: &Line) -> Result<bool, Fail> {
+    let is_text = escapes_to(alloc, block, row.truth(2)?, row.text(3)?)?;
+    Ok((block.is_closed() == row.truth(4)?) & is_text)
+}
+
 /// Returns `true` if a row has the result of its body, and says whether the block is closed then.
 fn is_escaped(alloc: Global, row: &Line) -> Result<bool, Fail> {
     let mut block = passed_by(alloc, row.text(0)?, row.number(1)?);
-    let is_text = escaped(alloc, &mut block, row.truth(2)?)?.as_str() == row.text(3)?;
-    Ok(is_text && block.is_closed() == row.truth(4)?)
+    is_escaped_so(alloc, &mut block, row)
 }
 
 /// A body, how many elements are passed before, whether starts nest, the escaped text or the error, and whether the

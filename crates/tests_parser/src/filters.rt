@@ -1,14 +1,26 @@
 //! Filters without a template, and registries.
 use crate::chains::filter_named;
-use crate::made::{Number, arguments, part_of, parts_in};
-use crate::told::displays;
+use crate::made::{Number, arguments, arguments_in, part_of};
+use crate::told::{displays, shows};
 use bench::filters::Filters;
-use liquid_core::ValueView;
 use liquid_core::model::{Value, ValueCow};
+use liquid_core::{Error, ValueView};
 use liquid_plugins::{FilterArguments, FilterReflection, PluginRegistry, call_filter};
 use std::alloc::{AllocError, Global};
 use std::test::Fail;
 use tests_lines::{Line, holds, rows_hold};
+
+/// Takes a result. Returns `true` if it is a value that renders as a text, or an error with that text.
+fn is_text(alloc: Global, answer: Result<Value, Error>, text: &str) -> Result<bool, Fail> {
+    match answer {
+        Ok(value) => {
+            let displays = displays(alloc, &value.render(), text);
+            drop(value);
+            displays
+        }
+        Err(error) => shows(alloc, error, text),
+    }
+}
 
 /// Returns `true` if a filter makes of the number 5 a value that renders as a text, or fails with that text.
 fn makes(
@@ -16,12 +28,11 @@ fn makes(
     filter: Filters,
     given: FilterArguments<'_>,
     text: &str,
-) -> Result<bool, AllocError> {
+) -> Result<bool, Fail> {
     let input = ValueCow::Owned(Value::scalar(5i64));
-    match call_filter(alloc, &filter, &input, given) {
-        Ok(value) => displays(alloc, &value.render(), text),
-        Err(error) => displays(alloc, &error, text),
-    }
+    let answer = call_filter(alloc, &filter, &input, given);
+    drop(input);
+    is_text(alloc, answer, text)
 }
 
 const UNEXPECTED: &str = "liquid: Unexpected arguments\n";
@@ -37,20 +48,26 @@ const CALLS: &str = r#"["append", [{"text": "%"}], "5%"]
 /// Returns `true` if a filter makes of its arguments what the row says.
 fn is_called(alloc: Global, row: &Line) -> Result<bool, Fail> {
     let (filter, text) = (filter_named(row.found(0))?, row.text(2)?);
-    let parts = parts_in(alloc, row.list(1)?)?;
-    Ok(makes(alloc, filter, arguments(alloc, parts.as_slice())?, text)?)
+    let given = row.list(1)?;
+    makes(alloc, filter, arguments_in(alloc, given)?, text)
+}
+
+/// Adds the argument 2 by a keyword.
+fn add_keyword(alloc: Global, given: &mut FilterArguments<'static>) -> Result<(), AllocError> {
+    let by = part_of(alloc, Number(2))?;
+    given.keyword.push(("by", by))?;
+    Ok(())
 }
 
 /// Returns the argument 1, and the argument 2 by a keyword.
 fn keyword_arguments(alloc: Global) -> Result<FilterArguments<'static>, AllocError> {
-    let by = part_of(alloc, Number(2))?;
     let mut given = arguments(alloc, &[Number(1)])?;
-    given.keyword.push(("by", by))?;
+    add_keyword(alloc, &mut given)?;
     Ok(given)
 }
 
 /// Returns `true` if a keyword that a filter doesn't know is an error.
-fn keyword_is_refused(alloc: Global) -> Result<bool, AllocError> {
+fn keyword_is_refused(alloc: Global) -> Result<bool, Fail> {
     makes(
         alloc,
         Filters::Append,
@@ -67,10 +84,8 @@ fn filters_are_reflected() -> bool {
         && Filters::Fail.keyword_parameters().is_empty()
 }
 
-#[test]
-fn filters_are_called_without_a_template(rt: HostRuntime) -> Result<(), Fail> {
-    let alloc = rt.alloc();
-    rows_hold(alloc, CALLS, is_called)?;
+/// Fails unless an unknown keyword is an error, and the filters return their names and parameters.
+fn check_filters(alloc: Global) -> Result<(), Fail> {
     holds(
         keyword_is_refused(alloc)?,
         "a keyword that is not known is refused",
@@ -79,6 +94,12 @@ fn filters_are_called_without_a_template(rt: HostRuntime) -> Result<(), Fail> {
         filters_are_reflected(),
         "the filters tell their names and parameters",
     )
+}
+
+#[test]
+fn filters_are_called_without_a_template(rt: HostRuntime) -> Result<(), Fail> {
+    rows_hold(rt.alloc(), CALLS, is_called)?;
+    check_filters(rt.alloc())
 }
 
 type Registry = PluginRegistry<Filters>;
@@ -96,10 +117,17 @@ fn has_fail(registry: &Registry, filter: &Filters) -> bool {
 }
 
 /// Returns `true` if the other filter takes the place of the first one, but not in a copy made before.
+fn replaces_one_after(registry: &mut Registry, before: &Registry) -> Result<bool, AllocError> {
+    let is_replaced = registry.register("fail", Filters::Fail)?;
+    Ok(is_replaced & has_fail(registry, &Filters::Fail) & has_fail(before, &Filters::Append))
+}
+
+/// Copies the registry, and returns `true` if the other filter takes the place of the first one, but not in the copy.
 fn replaces_one(registry: &mut Registry) -> Result<bool, AllocError> {
     let before = registry.clone()?;
-    let is_replaced = registry.register("fail", Filters::Fail)?;
-    Ok(is_replaced & has_fail(registry, &Filters::Fail) & has_fail(&before, &Filters::Append))
+    let is_replaced = replaces_one_after(registry, &before);
+    drop(before);
+    is_replaced
 }
 
 /// Returns `true` if the names are listed in order.
@@ -130,12 +158,8 @@ fn has_plug_ins(registry: &mut Registry) -> Result<(), Fail> {
         "a filter takes the place of another",
     )?;
     holds(
-        names_are_listed(registry),
-        "the names are listed in their order",
-    )?;
-    holds(
-        plugins_are_listed(registry),
-        "the filters are listed in their names' order",
+        names_are_listed(registry) && plugins_are_listed(registry),
+        "the names and the filters are listed in the names' order",
     )
 }
 

@@ -1,8 +1,8 @@
 //! What tests check in a language.
-use bench::language;
+use bench::{Blocks, Filters, Tags, language};
 use liquid_core::parser::{Language, ParseBlock, ParseFilter, ParseTag};
 use liquid_core::runtime::Renderable;
-use std::alloc::Global;
+use std::alloc::{AllocError, Global};
 use std::test::Fail;
 
 /// What a test checks in any language.
@@ -16,8 +16,19 @@ pub(crate) trait Check {
         B::Node: Renderable<()>;
 }
 
+/// Returns a copy of the plain language.
+fn copied(alloc: Global) -> Result<Language<Filters, Tags, Blocks>, AllocError> {
+    let language = language(alloc)?;
+    let copy: Result<_, _> = language.clone();
+    drop(language);
+    copy
+}
+
 /// Checks a copy of the plain language. No other function here names it in a call that is generic in the language: each that does is
 /// checked against all that its plug-ins promise.
 pub(crate) fn check_language<C: Check>(alloc: Global, check: &C) -> Result<(), Fail> {
-    check.check(alloc, &language(alloc)?.clone()?)
+    let language = copied(alloc)?;
+    let checked = check.check(alloc, &language);
+    drop(language);
+    checked
 }

@@ -24,6 +24,8 @@ mod read_elements;
 #[cfg(test)]
 mod reflections;
 #[cfg(test)]
+mod rows;
+#[cfg(test)]
 mod runtimes;
 #[cfg(test)]
 mod taken;

@@ -74,8 +74,9 @@ fn each_of(alloc: Global, parts: &[Part<'_>]) -> Result<Vec<Expression>, AllocEr
 
 /// Returns the expression of a name and indexes.
 fn path_of(alloc: Global, name: &str, indexes: &[Part<'_>]) -> Result<Expression, AllocError> {
-    let name = Scalar::from(text(alloc, name)?);
-    Ok(Expression::of_parts(name, each_of(alloc, indexes)?))
+    let name = text(alloc, name)?;
+    let indexes = each_of(alloc, indexes)?;
+    Ok(Expression::of_parts(Scalar::from(name), indexes))
 }
 
 pub(crate) fn expression(
@@ -97,4 +98,20 @@ pub(crate) fn arguments(
         positional: each_of(alloc, parts)?,
         keyword: Vec::new(alloc),
     })
+}
+
+/// Returns the arguments that a row gives.
+pub(crate) fn arguments_in(
+    alloc: Global,
+    given: &Vec<Json>,
+) -> Result<FilterArguments<'static>, Fail> {
+    let parts = parts_in(alloc, given)?;
+    Ok(arguments(alloc, parts.as_slice())?)
+}
+
+/// Returns a list of one item.
+pub(crate) fn list_of<T: Drop>(alloc: Global, item: T) -> Result<Vec<T>, AllocError> {
+    let mut items = Vec::new(alloc);
+    items.push(item)?;
+    Ok(items)
 }

@@ -1,12 +1,13 @@
 //! What tags and blocks say about themselves.
 use crate::languages::{Check, check_language};
+use crate::rows::{rows_hold_over, texts_at};
 use liquid_core::parser::{
     BlockReflection, Language, ParseBlock, ParseFilter, ParseTag, PluginRegistry, TagReflection,
 };
 use liquid_core::runtime::Renderable;
 use std::alloc::Global;
 use std::test::Fail;
-use tests_lines::{Line, holds};
+use tests_lines::Line;
 
 /// Returns `true` if a text that may be given is what a row has at a place: a text, or null.
 fn is_told(told: Option<&str>, row: &Line, place: usize) -> Result<bool, Fail> {
@@ -18,7 +19,8 @@ fn is_told(told: Option<&str>, row: &Line, place: usize) -> Result<bool, Fail> {
 
 /// Returns `true` if a block has the tags, the description, the example and the spec of a row.
 fn block_is_told<B: BlockReflection>(block: &B, row: &Line) -> Result<bool, Fail> {
-    let has_tags = (block.start_tag() == row.text(0)?) & (block.end_tag() == row.text(1)?);
+    let (start, end) = texts_at(row, 0, 1)?;
+    let has_tags = block.start_tag() == start && block.end_tag() == end;
     let is_described = block.description() == row.text(2)?;
     let has_example = is_told(block.example(), row, 3)?;
     Ok(is_told(block.spec(), row, 4)? & has_tags & is_described & has_example)
@@ -26,8 +28,9 @@ fn block_is_told<B: BlockReflection>(block: &B, row: &Line) -> Result<bool, Fail
 
 /// Returns `true` if the block that a row names is registered, and says what the row says.
 fn has_block<B: BlockReflection + Drop>(
-    blocks: &PluginRegistry<B>,
+    _alloc: Global,
     row: &Line,
+    blocks: &PluginRegistry<B>,
 ) -> Result<bool, Fail> {
     match blocks.get(row.text(0)?) {
         Some(block) => block_is_told(block, row),
@@ -52,11 +55,7 @@ impl Check for TellBlocks {
         T::Node: Renderable<()>,
         B::Node: Renderable<()>,
     {
-        for row in BLOCKS.lines() {
-            let is_told = has_block(&language.blocks, &Line::of(alloc, row)?)?;
-            holds(is_told, row)?;
-        }
-        Ok(())
+        rows_hold_over(alloc, BLOCKS, &language.blocks, has_block)
     }
 }
 
@@ -67,14 +66,18 @@ fn blocks_tell_what_they_are(rt: HostRuntime) -> Result<(), Fail> {
 
 /// Returns `true` if a tag has the name, the description, the example and the spec of a row.
 fn tag_is_told<T: TagReflection>(tag: &T, row: &Line) -> Result<bool, Fail> {
-    let is_named = tag.tag() == row.text(0)?;
-    let is_described = tag.description() == row.text(1)?;
+    let (name, description) = texts_at(row, 0, 1)?;
+    let is_described = tag.tag() == name && tag.description() == description;
     let has_example = is_told(tag.example(), row, 2)?;
-    Ok(is_told(tag.spec(), row, 3)? & is_named & is_described & has_example)
+    Ok(is_told(tag.spec(), row, 3)? & is_described & has_example)
 }
 
 /// Returns `true` if the tag that a row names is registered, and says what the row says.
-fn has_tag<T: TagReflection + Drop>(tags: &PluginRegistry<T>, row: &Line) -> Result<bool, Fail> {
+fn has_tag<T: TagReflection + Drop>(
+    _alloc: Global,
+    row: &Line,
+    tags: &PluginRegistry<T>,
+) -> Result<bool, Fail> {
     match tags.get(row.text(0)?) {
         Some(tag) => tag_is_told(tag, row),
         None => Ok(false),
@@ -97,11 +100,7 @@ impl Check for TellTags {
         T::Node: Renderable<()>,
         B::Node: Renderable<()>,
     {
-        for row in TAGS.lines() {
-            let is_told = has_tag(&language.tags, &Line::of(alloc, row)?)?;
-            holds(is_told, row)?;
-        }
-        Ok(())
+        rows_hold_over(alloc, TAGS, &language.tags, has_tag)
     }
 }
 

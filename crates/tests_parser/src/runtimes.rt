@@ -1,5 +1,5 @@
 //! What tests check over a runtime.
-use liquid_core::model::to_object;
+use liquid_core::model::{Object, to_object};
 use liquid_core::runtime::{BuiltRuntime, Runtime, RuntimeBuilder};
 use serde_json::Value as Json;
 use std::alloc::Global;
@@ -9,9 +9,17 @@ use std::test::Fail;
 const GLOBALS: &str =
     r#"{"list": [0, 1, 2, 3, 4, 5, 6, 7, 8, 9], "one": [1], "word": "part", "box": {"part": 7}}"#;
 
+/// Returns the globals of the rows.
+fn globals(alloc: Global) -> Result<Object, Fail> {
+    let json = Json::from_str(alloc, GLOBALS)?;
+    let globals = to_object(alloc, &json);
+    drop(json);
+    Ok(globals?)
+}
+
 /// Returns a runtime with the globals, with lenient names or not.
 fn runtime(alloc: Global, lenient: bool) -> Result<BuiltRuntime<(), ()>, Fail> {
-    let globals = to_object(alloc, &Json::from_str(alloc, GLOBALS)?)?;
+    let globals = globals(alloc)?;
     Ok(
         RuntimeBuilder::new(alloc)
             .set_globals(globals)
@@ -28,5 +36,14 @@ pub(crate) trait Check {
 /// Checks a runtime with the globals, with lenient names or not. No other function here names its type in a call that is
 /// generic in the runtime: each that does is checked against all that a runtime promises.
 pub(crate) fn check_over<C: Check>(alloc: Global, lenient: bool, check: &C) -> Result<(), Fail> {
-    check.check(alloc, &runtime(alloc, lenient)?)
+    let runtime = runtime(alloc, lenient)?;
+    let checked = check.check(alloc, &runtime);
+    drop(runtime);
+    checked
+}
+
+/// Checks a runtime with the globals and strict names, and one with lenient names.
+pub(crate) fn check_over_both<C: Check>(alloc: Global, check: &C) -> Result<(), Fail> {
+    check_over(alloc, false, check)?;
+    check_over(alloc, true, check)
 }

@@ -1,48 +1,56 @@
 //! The next token of a tag, as what a plug-in expects, and what is left after it.
 use crate::languages::{Check, check_language};
+use crate::rows::{rows_hold_over, texts_at};
 use crate::tokens::{joined, tokens_of};
-use crate::told::is_told;
-use liquid_core::Error;
+use crate::told::{is_answer, is_name, tells};
 use liquid_core::parser::{
     Language, ParseBlock, ParseFilter, ParseTag, PluginRegistry, TagTokenIter,
 };
 use liquid_core::runtime::Renderable;
-use std::alloc::{AllocError, Global};
+use std::alloc::Global;
 use std::test::Fail;
-use tests_lines::{Line, holds};
+use tests_lines::Line;
 
 const MISSING: &str = "Token expected";
 
-/// Returns the text of the next token, as what a row expects.
-fn next_text<F: ParseFilter + Drop>(
+/// Takes a token that is expected as a text. Returns `true` if the text is the answer, or the first line of the error
+/// is.
+fn next_str_is(
     alloc: Global,
     expected: &str,
+    answer: &str,
     tokens: &mut TagTokenIter<'_>,
-    filters: &PluginRegistry<F>,
-) -> Result<String, Error> {
-    if expected == "identifier" {
-        return Ok(String::from_str(alloc, tokens.next_identifier(alloc, MISSING)?)?);
+) -> Result<bool, Fail> {
+    match tokens.next_str(alloc, MISSING, expected) {
+        Ok(()) => Ok(expected == answer),
+        Err(error) => tells(alloc, error, answer),
     }
-    if expected == "value" {
-        return Ok(tokens.next_value(alloc, MISSING)?.to_string(alloc)?);
-    }
-    if expected == "chain" {
-        return Ok(
-            tokens
-                .next_filter_chain(alloc, MISSING, filters)?
-                .to_string(alloc)?,
-        );
-    }
-    tokens.next_str(alloc, MISSING, expected)?;
-    Ok(String::from_str(alloc, expected)?)
 }
 
-/// Returns `true` if a text, or the first line of the error, is this one.
-fn is_answer(alloc: Global, answer: Result<String, Error>, text: &str) -> Result<bool, AllocError> {
-    match answer {
-        Ok(answer) => Ok(answer.as_str() == text),
-        Err(error) => is_told(alloc, &error, text),
+/// Takes the next token as what a row expects. Returns `true` if its text, or the first line of the error, is the
+/// answer.
+fn next_is<F: ParseFilter + Drop>(
+    alloc: Global,
+    expected: &str,
+    answer: &str,
+    tokens: &mut TagTokenIter<'_>,
+    filters: &PluginRegistry<F>,
+) -> Result<bool, Fail> {
+    match expected {
+        "identifier" => is_name(alloc, tokens.next_identifier(alloc, MISSING), answer),
+        "value" => is_answer(alloc, tokens.next_value(alloc, MISSING), answer),
+        "chain" => is_answer(
+            alloc,
+            tokens.next_filter_chain(alloc, MISSING, filters),
+            answer,
+        ),
+        _ => next_str_is(alloc, expected, answer, tokens),
     }
+}
+
+/// Returns `true` if the tokens that are left of a tag have these texts.
+fn are_left(alloc: Global, tokens: TagTokenIter<'_>, tag: &str, left: &str) -> Result<bool, Fail> {
+    Ok(joined(alloc, tokens, tag.len())?.as_str() == left)
 }
 
 /// Returns `true` if the next token of a row's tag is what the row says, or has the row's error, and the same tokens
@@ -52,13 +60,15 @@ fn is_taken<F: ParseFilter + Drop>(
     row: &Line,
     filters: &PluginRegistry<F>,
 ) -> Result<bool, Fail> {
-    let (expected, text) = (row.text(0)?, row.text(1)?);
-    let (answer, left) = (row.text(2)?, row.text(3)?);
-    let mut tokens = tokens_of(alloc, text)?;
-    let next = next_text(alloc, expected, &mut tokens, filters);
-    let is_next = is_answer(alloc, next, answer)?;
-    let is_left = joined(alloc, tokens, text.len())?.as_str() == left;
-    Ok(is_next & is_left)
+    let (expected, tag) = texts_at(row, 0, 1)?;
+    let (answer, left) = texts_at(row, 2, 3)?;
+    let mut tokens = tokens_of(alloc, tag)?;
+    let is_next = next_is(alloc, expected, answer, &mut tokens, filters)?;
+    if is_next {
+        are_left(alloc, tokens, tag, left)
+    } else {
+        Ok(false)
+    }
 }
 
 /// What the first token of a tag should be, the tag, the token or its error, and the tokens that are left.
@@ -95,11 +105,7 @@ impl Check for TakenTokens {
         T::Node: Renderable<()>,
         B::Node: Renderable<()>,
     {
-        for row in ROWS.lines() {
-            let is_taken = is_taken(alloc, &Line::of(alloc, row)?, &language.filters)?;
-            holds(is_taken, row)?;
-        }
-        Ok(())
+        rows_hold_over(alloc, ROWS, &language.filters, is_taken)
     }
 }
 

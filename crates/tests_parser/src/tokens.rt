@@ -1,5 +1,6 @@
 //! Tags alone and their tokens.
-use crate::told::told;
+use crate::rows::texts_at;
+use crate::told::{tells, told};
 use liquid_core::Error;
 use liquid_core::parser::{Tag, TagToken, TagTokenIter, TryMatchToken};
 use std::alloc::{AllocError, Global};
@@ -10,7 +11,7 @@ use tests_lines::{Line, rows_hold};
 fn texts(alloc: Global, text: &str) -> Result<String, AllocError> {
     match Tag::new(alloc, text) {
         Ok(tag) => joined(alloc, tag.into_tokens(), text.len()),
-        Err(error) => told(alloc, &error),
+        Err(error) => told(alloc, error),
     }
 }
 
@@ -30,73 +31,31 @@ pub(crate) fn joined(
     texts.join(alloc, " / ")
 }
 
-/// Returns `true` if a token is read as a variable.
-fn is_variable(alloc: Global, token: TagToken<'_>) -> Result<bool, AllocError> {
-    match token.expect_variable(alloc)? {
-        TryMatchToken::Matches(_) => Ok(true),
-        _ => Ok(false),
+/// Takes an attempt. Returns the letter, if it matches.
+fn letter<A: Drop>(attempt: TryMatchToken<'_, A>, letter: &'static str) -> &'static str {
+    match attempt {
+        TryMatchToken::Matches(found) => {
+            drop(found);
+            letter
+        }
+        TryMatchToken::Fails(_) => "",
     }
-}
-
-/// Returns `true` if a token is read as a literal.
-fn is_literal(alloc: Global, token: TagToken<'_>) -> Result<bool, AllocError> {
-    match token.expect_literal(alloc)? {
-        TryMatchToken::Matches(_) => Ok(true),
-        _ => Ok(false),
-    }
-}
-
-/// Returns `true` if a token is read as a value.
-fn is_value(alloc: Global, token: TagToken<'_>) -> Result<bool, AllocError> {
-    match token.expect_value(alloc)? {
-        TryMatchToken::Matches(_) => Ok(true),
-        _ => Ok(false),
-    }
-}
-
-/// Returns `true` if a token is read as a range.
-fn is_range(alloc: Global, token: TagToken<'_>) -> Result<bool, AllocError> {
-    match token.expect_range(alloc)? {
-        TryMatchToken::Matches(_) => Ok(true),
-        _ => Ok(false),
-    }
-}
-
-/// Returns `true` if a token is read as an identifier.
-fn is_identifier(token: TagToken<'_>) -> bool {
-    match token.expect_identifier() {
-        TryMatchToken::Matches(_) => true,
-        _ => false,
-    }
-}
-
-/// Returns `true` if a token is read as `==`.
-fn is_equality(token: TagToken<'_>) -> bool {
-    match token.expect_str("==") {
-        TryMatchToken::Matches(()) => true,
-        _ => false,
-    }
-}
-
-/// Returns the letter of an attempt, if it matches.
-fn letter(matches: bool, letter: &'static str) -> &'static str {
-    if matches { letter } else { "" }
 }
 
 /// Returns a letter for each attempt that matches the token.
 fn kinds(alloc: Global, token: TagToken<'_>) -> Result<String, AllocError> {
-    let identifier = letter(is_identifier(token), "i");
-    let variable = letter(is_variable(alloc, token)?, "v");
-    let literal = letter(is_literal(alloc, token)?, "l");
-    let value = letter(is_value(alloc, token)?, "e");
-    let range = letter(is_range(alloc, token)?, "r");
-    let equality = letter(is_equality(token), "s");
+    let identifier = letter(token.expect_identifier(), "i");
+    let variable = letter(token.expect_variable(alloc)?, "v");
+    let literal = letter(token.expect_literal(alloc)?, "l");
+    let value = letter(token.expect_value(alloc)?, "e");
+    let range = letter(token.expect_range(alloc)?, "r");
+    let equality = letter(token.expect_str("=="), "s");
     format!(in alloc; "{identifier}{variable}{literal}{value}{range}{equality}")
 }
 
 /// Returns `true` if a row has the tokens of its tag, or its error.
 fn has_tokens(alloc: Global, row: &Line) -> Result<bool, Fail> {
-    let (tag, answer) = (row.text(0)?, row.text(1)?);
+    let (tag, answer) = texts_at(row, 0, 1)?;
     Ok(texts(alloc, tag)?.as_str() == answer)
 }
 
@@ -126,42 +85,48 @@ pub(crate) fn first_token(alloc: Global, text: &str) -> Result<TagToken<'_>, Err
     tokens_of(alloc, text)?.expect_next(alloc, "Token expected")
 }
 
-/// Returns `true` if the first token of a tag has the kinds of some letters.
-fn has_kinds(alloc: Global, text: &str, letters: &str) -> Result<bool, Error> {
-    let token = first_token(alloc, text)?;
-    Ok(kinds(alloc, token)?.as_str() == letters)
+/// Returns `true` if a token has the kinds of some letters, and is raised as an error.
+fn is_kind(alloc: Global, token: TagToken<'_>, letters: &str) -> Result<bool, Fail> {
+    let refusal = "liquid: Unexpected token (line 1, column 6)";
+    let has_kinds = kinds(alloc, token)?.as_str() == letters;
+    Ok(tells(alloc, token.raise_error(alloc), refusal)? & has_kinds)
 }
 
-/// Returns `true` if the first token of a tag is raised as an error.
-fn is_raised(alloc: Global, text: &str, refusal: &str) -> Result<bool, Error> {
-    let token = first_token(alloc, text)?;
-    Ok(told(alloc, &token.raise_error(alloc))?.as_str() == refusal)
+/// Takes an error. Returns `true` if it is that of a token that is missing at a column.
+fn is_missing(alloc: Global, error: Error, column: usize) -> Result<bool, Fail> {
+    match format!(in alloc; "liquid: Token expected (line 1, column {column})") {
+        Ok(refusal) => tells(alloc, error, refusal.as_str()),
+        Err(failed) => {
+            drop(error);
+            Err(Fail::from(failed))
+        }
+    }
 }
 
-/// Returns what is expected after the first token of a tag: a token's text, or the first line of the error.
-fn second_token(alloc: Global, text: &str) -> Result<String, Error> {
-    let mut tokens = tokens_of(alloc, text)?;
-    tokens.expect_next(alloc, "Token expected")?;
-    Ok(match tokens.expect_next(alloc, "Token expected") {
-        Ok(token) => String::from_str(alloc, token.as_str())?,
-        Err(error) => told(alloc, &error)?,
-    })
+/// Returns `true` if no token is left, and the error for that is at a column.
+fn are_no_more(alloc: Global, mut tokens: TagTokenIter<'_>, column: usize) -> Result<bool, Fail> {
+    match tokens.expect_next(alloc, "Token expected") {
+        Ok(_) => Ok(false),
+        Err(error) => is_missing(alloc, error, column),
+    }
 }
 
 /// Returns `true` if a tag has no second token, and the error for that is at the tag's end.
-fn has_one_token(alloc: Global, text: &str) -> Result<bool, Error> {
-    let column = text.len().saturating_sub(2);
-    let refusal = format!(in alloc; "liquid: Token expected (line 1, column {column})")?;
-    Ok(second_token(alloc, text)? == refusal)
+fn has_one_token(alloc: Global, text: &str) -> Result<bool, Fail> {
+    let mut tokens = tokens_of(alloc, text)?;
+    tokens.expect_next(alloc, "Token expected")?;
+    are_no_more(alloc, tokens, text.len().saturating_sub(2))
 }
 
 /// Returns `true` if a row has the kinds of the only token of its tag, which can be raised as an error.
 fn is_of_kinds(alloc: Global, row: &Line) -> Result<bool, Fail> {
-    let (text, letters) = (row.text(0)?, row.text(1)?);
-    let refusal = "liquid: Unexpected token (line 1, column 6)";
-    let has_kinds = has_kinds(alloc, text, letters)?;
-    let is_raised = is_raised(alloc, text, refusal)?;
-    Ok(has_one_token(alloc, text)? & has_kinds & is_raised)
+    let (tag, letters) = texts_at(row, 0, 1)?;
+    let token = first_token(alloc, tag)?;
+    if is_kind(alloc, token, letters)? {
+        has_one_token(alloc, tag)
+    } else {
+        Ok(false)
+    }
 }
 
 /// A tag, and the letters of the kinds of its token.

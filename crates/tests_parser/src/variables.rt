@@ -1,23 +1,34 @@
 //! Texts that should be one variable.
-use crate::made::{expression, part_in, part_of, parts_in, text};
-use crate::told::is_told;
+use crate::made::{Part, expression, part_in, part_of, parts_in, text};
+use crate::rows::{equals, texts_at};
+use crate::told::tells;
 use liquid_core::model::Scalar;
 use liquid_core::parser::parse_variable;
 use liquid_plugins::Expression;
 use serde_json::Value as Json;
-use std::alloc::{AllocError, Global};
+use std::alloc::Global;
 use std::test::Fail;
 use tests_lines::{Line, rows_hold};
 
-/// Returns the index that a row gives: a part, or a list of a name and the parts after it.
-fn index_in(alloc: Global, given: &Json) -> Result<Expression, Fail> {
-    let Some(path) = given.as_array() else {
-        return Ok(part_of(alloc, part_in(given)?)?);
-    };
-    let parts = parts_in(alloc, path)?;
-    match parts.as_slice() {
+/// Returns the path of a name and the parts after it.
+fn path_of(alloc: Global, parts: &[Part<'_>]) -> Result<Expression, Fail> {
+    match parts {
         [name, indexes @ ..] => Ok(expression(alloc, *name, indexes)?),
         [] => Err(Fail::from("a path of a row has no name")),
+    }
+}
+
+/// Returns the path that a row gives: a list of a name and the parts after it.
+fn path_in(alloc: Global, given: &Vec<Json>) -> Result<Expression, Fail> {
+    let parts = parts_in(alloc, given)?;
+    path_of(alloc, parts.as_slice())
+}
+
+/// Returns the index that a row gives: a part, or a path.
+fn index_in(alloc: Global, given: &Json) -> Result<Expression, Fail> {
+    match given.as_array() {
+        Some(path) => path_in(alloc, path),
+        None => Ok(part_of(alloc, part_in(given)?)?),
     }
 }
 
@@ -33,19 +44,34 @@ fn push_indexes(
     Ok(())
 }
 
+/// Returns the indexes that a row gives.
+fn indexes_in(alloc: Global, given: &Vec<Json>) -> Result<Vec<Expression>, Fail> {
+    let mut indexes = Vec::new(alloc);
+    push_indexes(alloc, &mut indexes, given)?;
+    Ok(indexes)
+}
+
 /// Returns the variable of a row's name and indexes.
 fn variable_in(alloc: Global, row: &Line) -> Result<Expression, Fail> {
     let (name, given) = (row.text(1)?, row.list(2)?);
-    let name = Scalar::from(text(alloc, name)?);
-    let mut indexes = Vec::new(alloc);
-    push_indexes(alloc, &mut indexes, given)?;
-    Ok(Expression::of_parts(name, indexes))
+    let name = text(alloc, name)?;
+    let indexes = indexes_in(alloc, given)?;
+    Ok(Expression::of_parts(Scalar::from(name), indexes))
+}
+
+/// Returns `true` if a text is parsed as this variable.
+fn parses_as(alloc: Global, text: &str, variable: &Expression) -> Result<bool, Fail> {
+    let parsed = Expression::Variable(parse_variable(alloc, text)?);
+    Ok(equals(parsed, variable))
 }
 
 /// Returns `true` if a row's text is parsed as the row's variable.
 fn is_parsed(alloc: Global, row: &Line) -> Result<bool, Fail> {
+    let text = row.text(0)?;
     let variable = variable_in(alloc, row)?;
-    Ok(Expression::Variable(parse_variable(alloc, row.text(0)?)?) == variable)
+    let is_parsed = parses_as(alloc, text, &variable);
+    drop(variable);
+    is_parsed
 }
 
 /// A text, and the name and the indexes of the variable that it is.
@@ -60,16 +86,20 @@ fn whole_texts_are_variables(rt: HostRuntime) -> Result<(), Fail> {
 }
 
 /// Returns `true` if a text is not a variable, and this is the first line of the error.
-fn is_refused_as(alloc: Global, text: &str, refusal: &str) -> Result<bool, AllocError> {
+fn is_refused_as(alloc: Global, text: &str, refusal: &str) -> Result<bool, Fail> {
     match parse_variable(alloc, text) {
-        Ok(_) => Ok(false),
-        Err(error) => is_told(alloc, &error, refusal),
+        Ok(variable) => {
+            drop(variable);
+            Ok(false)
+        }
+        Err(error) => tells(alloc, error, refusal),
     }
 }
 
 /// Returns `true` if a row's text has the error of the row.
 fn is_refused(alloc: Global, row: &Line) -> Result<bool, Fail> {
-    Ok(is_refused_as(alloc, row.text(0)?, row.text(1)?)?)
+    let (text, refusal) = texts_at(row, 0, 1)?;
+    is_refused_as(alloc, text, refusal)
 }
 
 /// A text that is not a variable as a whole, and its error.

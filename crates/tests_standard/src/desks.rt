@@ -97,21 +97,31 @@ where
     Ok(())
 }
 
+/// Renders a page with marks twice over one desk.
+fn render_marks<R>(alloc: Global, runtime: &mut R, sink: &mut TextSink) -> Result<(), Error>
+where
+    R: Runtime<Register = Desk, Store = ()>,
+{
+    let text = "{% cycle 1, 2, 3 %}{% ifchanged %}a{% endifchanged %}";
+    render_twice(alloc, text, &plain_language(alloc)?, runtime, sink)
+}
+
+/// Fails if two pages over one desk do not share its marks.
+fn keeps_marks<R>(alloc: Global, runtime: &mut R) -> Result<(), Fail>
+where
+    R: Runtime<Register = Desk, Store = ()>,
+{
+    let mut sink = TextSink::new(alloc);
+    render_marks(alloc, runtime, &mut sink)?;
+    same(sink.into_string()?.as_str(), "1a2")
+}
+
 /// Fails if two pages over one desk do not share its marks, or are not two visits.
 fn keeps_marks_and_visits<R>(alloc: Global, mut runtime: R) -> Result<(), Fail>
 where
     R: Runtime<Register = Desk, Store = ()> + Drop,
 {
-    let text = "{% cycle 1, 2, 3 %}{% ifchanged %}a{% endifchanged %}";
-    let mut sink = TextSink::new(alloc);
-    render_twice(
-        alloc,
-        text,
-        &plain_language(alloc)?,
-        &mut runtime,
-        &mut sink,
-    )?;
-    same(sink.into_string()?.as_str(), "1a2")?;
+    keeps_marks(alloc, &mut runtime)?;
     holds(
         runtime.registers().value.visits == 2,
         "a desk keeps its visits",
@@ -124,17 +134,21 @@ fn a_desk_keeps_marks_and_visits(rt: HostRuntime) -> Result<(), Fail> {
     keeps_marks_and_visits(rt.alloc(), runtime)
 }
 
-#[test]
-fn a_page_has_a_fresh_desk(rt: HostRuntime) -> Result<(), Fail> {
-    let alloc = rt.alloc();
-    let mut sink = TextSink::new(alloc);
+/// Renders a page with marks over a desk of its own.
+fn render_fresh(alloc: Global, sink: &mut TextSink) -> Result<(), Error> {
     render_page_in::<Desk, NoPlugin, StdTags, StdBlocks, InMemorySource, TextSink>(
         alloc,
         "{% cycle 1, 2 %}{% cycle 1, 2 %}{% ifchanged %}a{% endifchanged %}",
         plain_language(alloc)?,
         Object::new(alloc),
         InMemorySource::new(alloc),
-        &mut sink,
-    )?;
+        sink,
+    )
+}
+
+#[test]
+fn a_page_has_a_fresh_desk(rt: HostRuntime) -> Result<(), Fail> {
+    let mut sink = TextSink::new(rt.alloc());
+    render_fresh(rt.alloc(), &mut sink)?;
     same(sink.into_string()?.as_str(), "12a")
 }

@@ -1,5 +1,6 @@
-//! The tests of the standard tags and blocks with the standard filters: templates in isolation over parents that hide
-//! their names, and templates of the tag library in both languages. Each table is one text of lines, a row each.
+//! The tests of the standard library: its filters, each called as a function of values; its tags and blocks, with
+//! templates in isolation over parents that hide their names, and templates of the tag library in both languages; and
+//! the tests of the shop. Each table is one text of lines, a row each.
 #![tactic(auto)]
 
 #[cfg(test)]
@@ -9,11 +10,17 @@ mod byte_pages;
 #[cfg(test)]
 mod desks;
 #[cfg(test)]
+mod filters;
+#[cfg(test)]
 mod isolated_rows;
 #[cfg(test)]
 mod library_rows;
 #[cfg(test)]
 mod parents;
+#[cfg(test)]
+mod shop_reviews;
+#[cfg(test)]
+mod shop_rows;
 #[cfg(test)]
 mod sites;
 #[cfg(test)]

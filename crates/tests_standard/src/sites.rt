@@ -37,6 +37,25 @@ where
     whole(alloc, sink, answer)
 }
 
+/// Returns `true` if a page comes to what its row says over a parent, in isolation or in a sandbox.
+fn is_whole<X, T, B, R>(
+    alloc: Global,
+    page: &Template<X, T, B>,
+    row: &Row,
+    parent: &mut R,
+    is_sandboxed: bool,
+) -> Result<bool, Fail>
+where
+    X: Filter,
+    T: Discreet<Marks>,
+    B: Discreet<Marks>,
+    R: Runtime<Register = Marks>,
+    R::Store: PartialStore<X, T, B>,
+{
+    let written = rendered(alloc, page, row, parent, is_sandboxed)?;
+    Ok(row.is_whole(written.as_str()))
+}
+
 /// Returns `true` if a page comes to what its row says over a runtime of a parent, and leaves the runtime as it was.
 fn is_whole_over<X, T, B, R>(
     alloc: Global,
@@ -53,9 +72,8 @@ where
     R: Runtime<Register = Marks> + Drop,
     R::Store: PartialStore<X, T, B>,
 {
-    let is_whole = row.is_whole(rendered(alloc, page, row, &mut runtime, is_sandboxed)?.as_str());
-    let is_kept = is_kept(alloc, parent, &runtime)?;
-    Ok(is_whole && is_kept)
+    let is_whole = is_whole(alloc, page, row, &mut runtime, is_sandboxed)?;
+    Ok(is_kept(alloc, parent, &runtime)? && is_whole)
 }
 
 /// Returns `true` if a page comes to what its row says over a parent, and leaves the parent as it was.
@@ -78,6 +96,29 @@ where
     is_whole_over(alloc, page, row, parent, runtime, is_sandboxed)
 }
 
+/// Returns `true` if a parsed row holds over a parent in isolation, and in a sandbox if it says so.
+fn holds_in_both<F, T, B>(
+    alloc: Global,
+    language: &Rc<Language<F, T, B>>,
+    page: &Template<F::Filter, T::Node, B::Node>,
+    row: &Row,
+    parent: &Line,
+) -> Result<bool, Fail>
+where
+    F: ParseFilter + Drop,
+    T: ParseTag<F> + Drop,
+    B: ParseBlock<F> + Drop,
+    T::Node: Discreet<Marks>,
+    B::Node: Discreet<Marks>,
+{
+    let is_isolated = holds_over(alloc, language, page, row, parent, false)?;
+    if row.member("is_sandboxed").is_some() {
+        Ok(holds_over(alloc, language, page, row, parent, true)? && is_isolated)
+    } else {
+        Ok(is_isolated)
+    }
+}
+
 /// Returns `true` if a parsed row holds over each parent.
 fn holds_over_each<F, T, B>(
     alloc: Global,
@@ -92,13 +133,8 @@ where
     T::Node: Discreet<Marks>,
     B::Node: Discreet<Marks>,
 {
-    let is_isolated_alone = row.member("is_sandboxed").is_none();
     for line in PARENTS.lines() {
-        let parent = Line::of(alloc, line)?;
-        let is_isolated = holds_over(alloc, language, page, row, &parent, false)?;
-        if !is_isolated
-            || !is_isolated_alone && !holds_over(alloc, language, page, row, &parent, true)?
-        {
+        if !holds_in_both(alloc, language, page, row, &Line::of(alloc, line)?)? {
             return Ok(false);
         }
     }
@@ -120,8 +156,12 @@ where
     }
 }
 
-/// Fails for the first row that does not hold in a language.
-fn all_hold<F, T, B>(alloc: Global, language: Language<F, T, B>) -> Result<(), Fail>
+/// Returns `true` if the row of a line holds.
+fn line_holds<F, T, B>(
+    alloc: Global,
+    language: &Rc<Language<F, T, B>>,
+    line: &str,
+) -> Result<bool, Fail>
 where
     F: ParseFilter + Drop,
     T: ParseTag<F> + Drop,
@@ -129,18 +169,34 @@ where
     T::Node: Discreet<Marks>,
     B::Node: Discreet<Marks>,
 {
-    let language = Rc::new(alloc, language)?;
+    holds(alloc, language, &row_of(alloc, line)?)
+}
+
+/// Fails for the first row that does not hold in a language.
+fn all_hold<F, T, B>(alloc: Global, language: &Rc<Language<F, T, B>>) -> Result<(), Fail>
+where
+    F: ParseFilter + Drop,
+    T: ParseTag<F> + Drop,
+    B: ParseBlock<F> + Drop,
+    T::Node: Discreet<Marks>,
+    B::Node: Discreet<Marks>,
+{
     for line in ISOLATED.lines() {
-        if !holds(alloc, &language, &row_of(alloc, line)?)? {
+        if !line_holds(alloc, language, line)? {
             return Err(Fail::new(format_args!("this row doesn't hold: {line}")));
         }
     }
     Ok(())
 }
 
+/// Fails for the first row that does not hold in the standard language.
+fn all_hold_in_the_standard(alloc: Global) -> Result<(), Fail> {
+    let language = liquid_std::language(alloc, filters(alloc, None)?)?;
+    all_hold(alloc, &Rc::new(alloc, language)?)
+}
+
 #[test]
 fn rows_in_isolation(rt: HostRuntime) -> Result<(), Fail> {
-    let alloc = rt.alloc();
-    all_hold(alloc, liquid_std::language(alloc, filters(alloc, None)?)?)?;
+    all_hold_in_the_standard(rt.alloc())?;
     tests_lines::holds(ISOLATED.lines().count() == 54, "a table has all its rows")
 }

@@ -1,6 +1,6 @@
 //! JSON as values, and values as JSON.
 use crate::value::value_in;
-use liquid_error::Result;
+use liquid_error::{Error, Result};
 use liquid_json::{
     from_value, into_object, into_value, object_from_str, to_object, to_scalar, to_value,
 };
@@ -12,6 +12,24 @@ use std::alloc::{AllocError, Global};
 use std::test::Fail;
 use tests_lines::{Line, holds, rows_hold, same};
 
+/// Returns `true` if this is the source of a value.
+fn value_is_told(
+    alloc: Global,
+    value: &Value,
+    wanted: &str,
+) -> std::result::Result<bool, AllocError> {
+    Ok(ValueSource::new(value).to_string(alloc)?.as_str() == wanted)
+}
+
+/// Returns `true` if this is the text of an error.
+fn error_is_told(
+    alloc: Global,
+    error: &Error,
+    wanted: &str,
+) -> std::result::Result<bool, AllocError> {
+    Ok(error.to_string(alloc)?.as_str() == wanted)
+}
+
 /// Returns `true` if the source of the value that was made, or the text of the error, is this one.
 fn is_told(
     alloc: Global,
@@ -19,8 +37,8 @@ fn is_told(
     wanted: &str,
 ) -> std::result::Result<bool, AllocError> {
     match made {
-        Ok(value) => Ok(ValueSource::new(&value).to_string(alloc)?.as_str() == wanted),
-        Err(error) => Ok(error.to_string(alloc)?.as_str() == wanted),
+        Ok(value) => value_is_told(alloc, &value, wanted),
+        Err(error) => error_is_told(alloc, &error, wanted),
     }
 }
 
@@ -31,8 +49,8 @@ fn object_is_told(
     wanted: &str,
 ) -> std::result::Result<bool, AllocError> {
     match made {
-        Ok(object) => is_told(alloc, Ok(Value::from(object)), wanted),
-        Err(error) => is_told(alloc, Err(error), wanted),
+        Ok(object) => value_is_told(alloc, &Value::from(object), wanted),
+        Err(error) => error_is_told(alloc, &error, wanted),
     }
 }
 
@@ -43,8 +61,8 @@ fn scalar_is_told(
     wanted: &str,
 ) -> std::result::Result<bool, AllocError> {
     match made {
-        Ok(scalar) => is_told(alloc, Ok(Value::Scalar(scalar)), wanted),
-        Err(error) => is_told(alloc, Err(error), wanted),
+        Ok(scalar) => value_is_told(alloc, &Value::Scalar(scalar), wanted),
+        Err(error) => error_is_told(alloc, &error, wanted),
     }
 }
 
@@ -257,10 +275,14 @@ const ALL: &str =
 const ALL_SHOWN: &str =
     r#"[-5,null,null,"2016-02-16","2016-02-16 10:00:00 +0100",{"n":"a","t":true}]"#;
 
+/// Fails unless a value is shown as this JSON.
+fn is_shown(alloc: Global, value: &Value, json: &str) -> std::result::Result<(), Fail> {
+    same(shown(alloc, value)?.as_str(), json)
+}
+
 #[test]
 fn values_are_shown(rt: HostRuntime) -> std::result::Result<(), Fail> {
     let alloc = rt.alloc();
     rows_hold(alloc, TEXTS, text_is_shown)?;
-    let all = value_in(alloc, ALL)?;
-    same(shown(alloc, &all)?.as_str(), ALL_SHOWN)
+    is_shown(alloc, &value_in(alloc, ALL)?, ALL_SHOWN)
 }

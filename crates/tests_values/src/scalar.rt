@@ -33,15 +33,14 @@ const NUMBERS: &str = r#"["5", 5]
 ["5.0"]
 ["true"]"#;
 
-fn writes_number(row: &Line) -> Result<bool, Fail> {
+fn writes_number(_alloc: Global, row: &Line) -> Result<bool, Fail> {
     let found = ScalarCow::new(row.text(0)?).to_integer();
-    let wanted = row.found(1).and_then(|json| json.as_i64());
-    Ok(found == wanted)
+    Ok(found == row.found(1).and_then(Json::as_i64))
 }
 
 #[test]
 fn texts_that_write_whole_numbers(rt: HostRuntime) -> Result<(), Fail> {
-    rows_hold(rt.alloc(), NUMBERS, |_, row| writes_number(row))
+    rows_hold(rt.alloc(), NUMBERS, writes_number)
 }
 
 /// Returns the whole number of a scalar.
@@ -56,18 +55,15 @@ fn truth_of(scalar: ScalarCow<'_>) -> Option<bool> {
 
 #[test]
 fn only_truth_values_are_truth_values(_rt: HostRuntime) -> Result<(), Fail> {
-    holds(number_of(ScalarCow::new(-3i8)) == Some(-3), "a number")?;
+    let is_number = number_of(ScalarCow::new(-3i8)) == Some(-3);
     holds(
-        number_of(ScalarCow::new(true)).is_none(),
-        "a truth value is no number",
+        is_number && number_of(ScalarCow::new(true)).is_none(),
+        "a number, and a truth value that is none",
     )?;
+    let is_truth = truth_of(ScalarCow::new(true)) == Some(true);
     holds(
-        truth_of(ScalarCow::new(true)) == Some(true),
-        "a truth value",
-    )?;
-    holds(
-        truth_of(ScalarCow::new("true")).is_none(),
-        "a text is no truth value",
+        is_truth && truth_of(ScalarCow::new("true")).is_none(),
+        "a truth value, and a text that is none",
     )
 }
 
@@ -103,8 +99,9 @@ fn compare(left: &ScalarCow<'_>, right: &ScalarCow<'_>, row: &Line) -> Result<bo
 
 /// Returns `true` if the scalars of a row compare as it says.
 fn are_compared(_alloc: Global, row: &Line) -> Result<bool, Fail> {
-    let left = scalar_in(row.member(1)?)?;
-    let right = scalar_in(row.member(2)?)?;
+    let (one, other) = (row.member(1)?, row.member(2)?);
+    let left = scalar_in(one)?;
+    let right = scalar_in(other)?;
     compare(&left, &right, row)
 }
 
@@ -161,39 +158,39 @@ fn copy_has_text(alloc: Global, scalar: &ScalarCow<'_>, text: &str) -> Result<bo
     Ok(scalar.clone()?.into_string(alloc)?.as_str() == text)
 }
 
-/// Returns `true` if a scalar has this text.
-fn has_text(alloc: Global, scalar: ScalarCow<'_>, text: &str) -> Result<bool, AllocError> {
-    Ok(scalar.into_cow_str(alloc)?.as_str() == text)
+/// Fails unless a scalar renders, shows its source, and names its type, and a copy has its text.
+fn is_displayed(
+    alloc: Global,
+    scalar: &ScalarCow<'_>,
+    render: &str,
+    source: &str,
+    kind: &str,
+) -> Result<(), Fail> {
+    holds(displays(alloc, scalar, render, source, kind)?, kind)?;
+    holds(copy_has_text(alloc, scalar, render)?, "a copy")
 }
 
-/// Returns `true` if a scalar renders, shows its source, names its type, and is its text.
-fn shows(
+/// Fails unless a scalar renders, shows its source, names its type, and is its text.
+fn is_shown(
     alloc: Global,
     scalar: ScalarCow<'_>,
     render: &str,
     source: &str,
     kind: &str,
-) -> Result<bool, AllocError> {
-    let is_displayed = displays(alloc, &scalar, render, source, kind)?;
-    let is_copied = copy_has_text(alloc, &scalar, render)?;
-    Ok(has_text(alloc, scalar, render)? & is_displayed & is_copied)
+) -> Result<(), Fail> {
+    is_displayed(alloc, &scalar, render, source, kind)?;
+    same(scalar.into_cow_str(alloc)?.as_str(), render)
 }
 
 #[test]
 fn renders_and_sources(rt: HostRuntime) -> Result<(), Fail> {
     let alloc = rt.alloc();
     let number = ScalarCow::new(-12i32);
-    holds(
-        shows(alloc, number, "-12", "-12", "whole number")?,
-        "a number",
-    )?;
+    is_shown(alloc, number, "-12", "-12", "whole number")?;
     let lie = ScalarCow::new(false);
-    holds(
-        shows(alloc, lie, "false", "false", "boolean")?,
-        "a truth value",
-    )?;
+    is_shown(alloc, lie, "false", "false", "boolean")?;
     let text = ScalarCow::new("a\"b");
-    holds(shows(alloc, text, "a\"b", "\"a\"b\"", "string")?, "a text")
+    is_shown(alloc, text, "a\"b", "\"a\"b\"", "string")
 }
 
 /// Returns `true` if a copy of a scalar is the same and has the same hash.
@@ -217,13 +214,18 @@ fn is_cow_str(alloc: Global, scalar: Scalar, text: &str) -> Result<(), Fail> {
     same(scalar.into_cow_str(alloc)?.as_str(), text)
 }
 
+/// Fails unless copies of the text `abc` are the same, and become this string.
+fn has_copies(alloc: Global, text: &Scalar) -> Result<(), Fail> {
+    holds(has_a_copy(text)?, "a copy")?;
+    holds(is_lent(alloc, text)?, "a copy of what is borrowed")?;
+    is_string(alloc, text.clone()?, "abc")
+}
+
 #[test]
 fn owned_scalars_are_the_same(rt: HostRuntime) -> Result<(), Fail> {
     let alloc = rt.alloc();
     let text = owned(alloc, "abc")?;
-    holds(has_a_copy(&text)?, "a copy")?;
-    holds(is_lent(alloc, &text)?, "a copy of what is borrowed")?;
-    is_string(alloc, text.clone()?, "abc")?;
+    has_copies(alloc, &text)?;
     is_cow_str(alloc, text, "abc")
 }
 
@@ -243,13 +245,16 @@ fn is_borrowed(alloc: Global, borrowed: &ScalarCow<'_>, copy: &ScalarCow<'_>) ->
     holds(is_strictly(copy, moved), "an owned text")
 }
 
+/// Fails unless a borrowed scalar of the text `k` and a copy of it are as others of that text.
+fn is_copied(alloc: Global, borrowed: &ScalarCow<'_>) -> Result<(), Fail> {
+    is_borrowed(alloc, borrowed, &borrowed.clone()?)
+}
+
 #[test]
 fn borrowed_scalars_are_the_same(rt: HostRuntime) -> Result<(), Fail> {
     let alloc = rt.alloc();
     let kept = String::from_str(alloc, "k")?;
-    let borrowed = ScalarCow::new(&kept);
-    let copy = borrowed.clone()?;
-    is_borrowed(alloc, &borrowed, &copy)
+    is_copied(alloc, &ScalarCow::new(&kept))
 }
 
 // How two scalars are compared, of which one is a date time, the scalars, and the result: loosely by days, and strictly by
@@ -273,8 +278,14 @@ fn date_is_shown(alloc: Global, date: &ScalarCow<'_>) -> Result<(), Fail> {
     same(date.to_kstr(alloc)?.as_str(), "2016-02-17")
 }
 
-/// Fails unless a date time becomes its text.
+/// Returns the date time of 16 February 2016, at 10 of a clock that is an hour ahead.
+fn morning() -> Result<DateTime, Fail> {
+    Ok(DateTime::from_parts(day(16)?, 10, 0, 0, 0, 3600)?)
+}
+
+/// Fails unless a date time has the name of its type, and becomes its text.
 fn is_moment_text(alloc: Global, date_time: ScalarCow<'_>) -> Result<(), Fail> {
+    same(date_time.type_name(), "date time")?;
     same(
         date_time.into_string(alloc)?.as_str(),
         "2016-02-16 10:00:00 +0100",
@@ -285,9 +296,7 @@ fn is_moment_text(alloc: Global, date_time: ScalarCow<'_>) -> Result<(), Fail> {
 fn dates_and_date_times_have_texts(rt: HostRuntime) -> Result<(), Fail> {
     let alloc = rt.alloc();
     date_is_shown(alloc, &ScalarCow::new(day(17)?))?;
-    let moment = DateTime::from_parts(day(16)?, 10, 0, 0, 0, 3600)?;
-    same(ScalarCow::new(moment).type_name(), "date time")?;
-    is_moment_text(alloc, ScalarCow::new(moment))
+    is_moment_text(alloc, ScalarCow::new(morning()?))
 }
 
 /// Returns `true` if a scalar is a day where this is the present moment.
@@ -311,7 +320,7 @@ const DAYS: &str = r#"["13 Jun 2016", true]
 ["today", true]
 ["14 Jun 2016", false]"#;
 
-fn is_day(row: &Line) -> Result<bool, Fail> {
+fn is_day(_alloc: Global, row: &Line) -> Result<bool, Fail> {
     let day = Date::from_ymd(2016, 6, 13)?;
     let moment = DateTime::from_ymd(2016, 6, 13)?;
     Ok(has_date(ScalarCow::new(row.text(0)?), &moment, &day) == row.truth(1)?)
@@ -322,19 +331,24 @@ const MOMENTS: &str = r#"["2016-06-13 02:00:00 +0200", true]
 ["Now", true]
 ["13", false]"#;
 
-fn is_moment(row: &Line) -> Result<bool, Fail> {
+fn is_moment(_alloc: Global, row: &Line) -> Result<bool, Fail> {
     let moment = DateTime::from_ymd(2016, 6, 13)?;
     Ok(has_date_time(ScalarCow::new(row.text(0)?), &moment, &moment) == row.truth(1)?)
 }
 
-#[test]
-fn scalars_convert_to_dates(rt: HostRuntime) -> Result<(), Fail> {
-    rows_hold(rt.alloc(), DAYS, |_, row| is_day(row))?;
-    rows_hold(rt.alloc(), MOMENTS, |_, row| is_moment(row))?;
+/// Fails unless a number is no date.
+fn number_is_no_date() -> Result<(), Fail> {
     let day = Date::from_ymd(2016, 6, 13)?;
     let moment = DateTime::from_ymd(2016, 6, 13)?;
     holds(
         !has_date(ScalarCow::new(5i64), &moment, &day),
         "a number is no date",
     )
+}
+
+#[test]
+fn scalars_convert_to_dates(rt: HostRuntime) -> Result<(), Fail> {
+    rows_hold(rt.alloc(), DAYS, is_day)?;
+    rows_hold(rt.alloc(), MOMENTS, is_moment)?;
+    number_is_no_date()
 }

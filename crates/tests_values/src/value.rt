@@ -58,10 +58,15 @@ fn beyond_json(given: &Json) -> Result<Option<Value>, Fail> {
     }
 }
 
+/// Returns the value that JSON alone means.
+fn plain(alloc: Global, given: &Json) -> Result<Value, Fail> {
+    Ok(to_value(alloc, given)?)
+}
+
 fn plain_or_beyond(alloc: Global, given: &Json) -> Result<Value, Fail> {
     match beyond_json(given)? {
         Some(value) => Ok(value),
-        None => Ok(to_value(alloc, given)?),
+        None => plain(alloc, given),
     }
 }
 
@@ -79,11 +84,21 @@ fn array_of(alloc: Global, items: &Vec<Json>) -> Result<Array, Fail> {
     Ok(array)
 }
 
+/// Puts a value into an object.
+fn insert(alloc: Global, object: &mut Object, name: &str, value: Value) -> Result<(), AllocError> {
+    drop(object.insert(String::from_str(alloc, name)?, value)?);
+    Ok(())
+}
+
 /// Puts the values of the members of a JSON into an object.
 fn insert_all(alloc: Global, object: &mut Object, members: &Map<String, Json>) -> Result<(), Fail> {
     for (name, member) in members {
-        let name = String::from_str(alloc, name.as_str())?;
-        drop(object.insert(name, plain_or_beyond(alloc, member)?)?);
+        insert(
+            alloc,
+            object,
+            name.as_str(),
+            plain_or_beyond(alloc, member)?,
+        )?;
     }
     Ok(())
 }
@@ -94,17 +109,22 @@ fn object_of(alloc: Global, members: &Map<String, Json>) -> Result<Object, Fail>
     Ok(object)
 }
 
+/// Returns the value of a JSON that is no object of one member with a meaning of its own.
+fn nested(alloc: Global, given: &Json) -> Result<Value, Fail> {
+    match given {
+        Json::Array(items) => Ok(Value::from(array_of(alloc, items)?)),
+        Json::Object(members) => Ok(Value::from(object_of(alloc, members)?)),
+        _ => plain(alloc, given),
+    }
+}
+
 /// Returns the value that a row gives as JSON. What JSON doesn't have is an object of one member there, alone or in an
 /// array or object: a day of February 2016, as `{"day": 16}`; an hour of 16 February 2016 and its offset in seconds, as
 /// `{"moment": [10, 3600]}`; and a state, as `{"state": "empty"}`.
 fn value_of(alloc: Global, given: &Json) -> Result<Value, Fail> {
-    if let Some(value) = beyond_json(given)? {
-        return Ok(value);
-    }
-    match given {
-        Json::Array(items) => Ok(Value::from(array_of(alloc, items)?)),
-        Json::Object(members) => Ok(Value::from(object_of(alloc, members)?)),
-        _ => Ok(to_value(alloc, given)?),
+    match beyond_json(given)? {
+        Some(value) => Ok(value),
+        None => nested(alloc, given),
     }
 }
 

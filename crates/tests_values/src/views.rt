@@ -60,111 +60,116 @@ fn shows<V: ValueView>(
     Ok(is_displayed & is_meant & (view.type_name() == type_name))
 }
 
-#[test]
-fn numbers_are_whole_numbers(rt: HostRuntime) -> Result<(), Fail> {
-    let alloc = rt.alloc();
+/// Fails unless the view renders, shows its source, and is the value, all as the value itself.
+fn is_shown<V: ValueView>(
+    alloc: Global,
+    view: &V,
+    render: &str,
+    source: &str,
+    type_name: &str,
+) -> Result<(), Fail> {
+    holds(shows(alloc, view, render, source, type_name)?, source)
+}
+
+/// Fails unless signed numbers are whole numbers.
+fn check_signed(alloc: Global) -> Result<(), Fail> {
     let number = "whole number";
     let least = "-9223372036854775808";
-    holds(shows(alloc, &-8i8, "-8", "-8", number)?, "i8")?;
-    holds(shows(alloc, &-300i16, "-300", "-300", number)?, "i16")?;
-    holds(shows(alloc, &70000i32, "70000", "70000", number)?, "i32")?;
-    holds(shows(alloc, &i64::MIN, least, least, number)?, "i64")?;
-    holds(shows(alloc, &8u8, "8", "8", number)?, "u8")?;
-    holds(shows(alloc, &300u16, "300", "300", number)?, "u16")?;
-    holds(
-        shows(alloc, &u32::MAX, "4294967295", "4294967295", number)?,
-        "u32",
-    )?;
+    is_shown(alloc, &-8i8, "-8", "-8", number)?;
+    is_shown(alloc, &-300i16, "-300", "-300", number)?;
+    is_shown(alloc, &70000i32, "70000", "70000", number)?;
+    is_shown(alloc, &i64::MIN, least, least, number)
+}
+
+/// Fails unless unsigned numbers are whole numbers.
+fn check_unsigned(alloc: Global) -> Result<(), Fail> {
+    let number = "whole number";
+    let greatest = "4294967295";
+    is_shown(alloc, &8u8, "8", "8", number)?;
+    is_shown(alloc, &300u16, "300", "300", number)?;
+    is_shown(alloc, &u32::MAX, greatest, greatest, number)
+}
+
+#[test]
+fn numbers_are_whole_numbers(rt: HostRuntime) -> Result<(), Fail> {
+    check_signed(rt.alloc())?;
+    check_unsigned(rt.alloc())?;
     holds(1i64.is_scalar() && !1i64.is_nil(), "a number is a scalar")
+}
+
+/// Fails unless the text `a` is shown.
+fn text_is_shown<V: ValueView>(alloc: Global, text: &V) -> Result<(), Fail> {
+    is_shown(alloc, text, "a", "\"a\"", "string")
 }
 
 #[test]
 fn texts_and_truth_values(rt: HostRuntime) -> Result<(), Fail> {
     let alloc = rt.alloc();
-    holds(
-        shows(alloc, &true, "true", "true", "boolean")?,
-        "a truth value",
-    )?;
-    holds(shows(alloc, &"a", "a", "\"a\"", "string")?, "a text")?;
-    let owned = String::from_str(alloc, "a")?;
-    holds(
-        shows(alloc, &owned, "a", "\"a\"", "string")?,
-        "an owned text",
-    )?;
+    is_shown(alloc, &true, "true", "true", "boolean")?;
+    text_is_shown(alloc, &"a")?;
+    text_is_shown(alloc, &String::from_str(alloc, "a")?)?;
     let borrowed: ScalarCow<'_> = ScalarCow::Str(CowStr::Borrowed("b"));
-    holds(
-        shows(alloc, &borrowed, "b", "\"b\"", "string")?,
-        "a borrowed text",
-    )
+    is_shown(alloc, &borrowed, "b", "\"b\"", "string")
+}
+
+/// Returns `true` if a text and a number are scalars.
+fn are_scalars() -> bool {
+    let is_scalar = "a".as_scalar().is_some();
+    let is_state = "a".as_state().is_some();
+    let is_number = scalar_of(4i64) == Scalar::Integer(4);
+    is_scalar && !is_state && is_number
 }
 
 #[test]
 fn texts_and_truth_values_are_in_states(rt: HostRuntime) -> Result<(), Fail> {
-    holds(false.query_state(State::Blank), "false is blank")?;
+    let is_blank = false.query_state(State::Blank) && " ".query_state(State::Blank);
     holds(
-        " ".query_state(State::Blank) && !" ".query_state(State::Empty),
-        "a space is blank",
+        is_blank && !" ".query_state(State::Empty),
+        "false and a space are blank",
     )?;
-    holds(
-        "a".as_scalar().is_some() && "a".as_state().is_none(),
-        "a text is a scalar",
-    )?;
-    holds(
-        scalar_of(4i64) == Scalar::Integer(4),
-        "the scalar of a number",
-    )?;
+    holds(are_scalars(), "a text and a number are scalars")?;
     same(String::from_str(rt.alloc(), "key")?.as_index(), "key")
 }
 
 #[test]
 fn states_are_shown(rt: HostRuntime) -> Result<(), Fail> {
+    is_shown(rt.alloc(), &State::Empty, "", "empty", "empty")?;
     holds(
-        shows(rt.alloc(), &State::Empty, "", "empty", "empty")?,
-        "a state",
-    )?;
-    holds(State::Empty.is_state(), "it is a state")?;
-    holds(
-        State::Blank.as_state() == Some(State::Blank),
+        State::Empty.is_state() && State::Blank.as_state() == Some(State::Blank),
         "it is that state",
     )
+}
+
+/// Fails unless what may be absent is as what is there, or nil.
+fn check_options(alloc: Global) -> Result<(), Fail> {
+    is_shown(alloc, &Some(5i64), "5", "5", "whole number")?;
+    let absent: Option<i64> = None;
+    is_shown(alloc, &absent, "", "nil", "nil")?;
+    holds(absent.is_nil(), "no number is nil")
+}
+
+/// Fails unless nil is shown, by itself and borrowed.
+fn nil_is_shown(alloc: Global, nil: &Value) -> Result<(), Fail> {
+    is_shown(alloc, nil, "", "nil", "nil")?;
+    is_shown(alloc, &ValueCow::Borrowed(nil), "", "nil", "nil")
 }
 
 #[test]
 fn what_may_be_absent_is_shown(rt: HostRuntime) -> Result<(), Fail> {
     let alloc = rt.alloc();
-    holds(
-        shows(alloc, &Some(5i64), "5", "5", "whole number")?,
-        "a number",
-    )?;
-    let absent: Option<i64> = None;
-    holds(shows(alloc, &absent, "", "nil", "nil")?, "no number")?;
-    holds(absent.is_nil(), "no number is nil")?;
-    let value = Value::Nil;
-    holds(shows(alloc, &value, "", "nil", "nil")?, "nil")?;
-    holds(
-        shows(alloc, &ValueCow::Borrowed(&value), "", "nil", "nil")?,
-        "borrowed nil",
-    )?;
-    holds(
-        shows(alloc, &&5i64, "5", "5", "whole number")?,
-        "a reference",
-    )
+    check_options(alloc)?;
+    nil_is_shown(alloc, &Value::Nil)?;
+    is_shown(alloc, &&5i64, "5", "5", "whole number")
 }
 
 #[test]
 fn dates_and_date_times(rt: HostRuntime) -> Result<(), Fail> {
     let alloc = rt.alloc();
     let day = Date::from_ymd(2016, 2, 16)?;
-    holds(
-        shows(alloc, &day, "2016-02-16", "2016-02-16", "date")?,
-        "a date",
-    )?;
+    is_shown(alloc, &day, "2016-02-16", "2016-02-16", "date")?;
     let moment = DateTime::from_parts(day, 10, 0, 0, 0, 3600)?;
     let text = "2016-02-16 10:00:00 +0100";
-    holds(
-        shows(alloc, &moment, text, text, "date time")?,
-        "a date time",
-    )
+    is_shown(alloc, &moment, text, text, "date time")
 }
 
 /// Returns `true` if an array that is built of the items of a list is as the list.
@@ -175,16 +180,19 @@ fn is_copied(alloc: Global, list: &Vec<i64>) -> Result<bool, AllocError> {
 
 /// Fails unless a list of 1 and 2 is an array.
 fn is_a_list(alloc: Global, list: &Vec<i64>) -> Result<(), Fail> {
-    holds(shows(alloc, list, "12", "[1, 2, ]", "array")?, "its texts")?;
+    is_shown(alloc, list, "12", "[1, 2, ]", "array")?;
     holds(list.is_array() & !list.is_object(), "it is an array")?;
     holds(is_copied(alloc, list)?, "an array of its items")
+}
+
+fn one_and_two(alloc: Global) -> Result<Vec<i64>, AllocError> {
+    Ok(vec![in alloc; 1, 2]?)
 }
 
 #[test]
 fn lists_are_arrays(rt: HostRuntime) -> Result<(), Fail> {
     let alloc = rt.alloc();
-    let list: Vec<i64> = vec![in alloc; 1, 2]?;
-    is_a_list(alloc, &list)?;
+    is_a_list(alloc, &one_and_two(alloc)?)?;
     let nothing: Vec<i64> = Vec::new(alloc);
     holds(nothing.query_state(State::Empty), "an empty list")
 }
@@ -242,10 +250,16 @@ fn arrays_have_a_first_and_a_last_item(rt: HostRuntime) -> Result<(), Fail> {
     has_ends(&first_ten(rt.alloc())?)
 }
 
-fn two_names(alloc: Global) -> Result<BTreeMap<String, i64>, AllocError> {
-    let mut map: BTreeMap<String, i64> = BTreeMap::new(alloc);
+/// Puts two names into a map.
+fn add_two(alloc: Global, map: &mut BTreeMap<String, i64>) -> Result<(), AllocError> {
     drop(map.insert(String::from_str(alloc, "b")?, 2)?);
     drop(map.insert(String::from_str(alloc, "a")?, 1)?);
+    Ok(())
+}
+
+fn two_names(alloc: Global) -> Result<BTreeMap<String, i64>, AllocError> {
+    let mut map: BTreeMap<String, i64> = BTreeMap::new(alloc);
+    add_two(alloc, &mut map)?;
     Ok(map)
 }
 
@@ -260,13 +274,21 @@ fn object_displays<O: ObjectView>(
     same(ObjectSource::new(object).to_string(alloc)?.as_str(), source)
 }
 
+/// Fails unless an object displays these texts, as a view and as an object.
+fn object_is_shown<O: ObjectView>(
+    alloc: Global,
+    object: &O,
+    render: &str,
+    source: &str,
+) -> Result<(), Fail> {
+    is_shown(alloc, object, render, source, "object")?;
+    object_displays(alloc, object, render, source)
+}
+
 #[test]
 fn maps_are_objects(rt: HostRuntime) -> Result<(), Fail> {
-    let alloc = rt.alloc();
-    let map = two_names(alloc)?;
-    let source = "{\"a\": 1, \"b\": 2, }";
-    holds(shows(alloc, &map, "a1b2", source, "object")?, "its texts")?;
-    object_displays(alloc, &map, "a1b2", source)
+    let map = two_names(rt.alloc())?;
+    object_is_shown(rt.alloc(), &map, "a1b2", "{\"a\": 1, \"b\": 2, }")
 }
 
 /// Returns `true` if the object finds this number under a name.
@@ -315,36 +337,52 @@ fn maps_find_their_names(rt: HostRuntime) -> Result<(), Fail> {
     has_two_names(alloc, &two_names(alloc)?)
 }
 
-#[test]
-fn later_pairs_win(rt: HostRuntime) -> Result<(), Fail> {
-    let alloc = rt.alloc();
-    let object = object_of(alloc, &[("a", 1i64), ("b", 2), ("a", 3)])?;
+/// Fails unless an object has the later one of the values of `a`, and a reference finds its names.
+fn has_later_value<O: ObjectView>(alloc: Global, object: &O) -> Result<(), Fail> {
+    is_shown(alloc, object, "a3b2", "{\"a\": 3, \"b\": 2, }", "object")?;
     holds(
-        shows(alloc, &object, "a3b2", "{\"a\": 3, \"b\": 2, }", "object")?,
-        "its texts",
-    )?;
-    holds(
-        ObjectView::contains_key(&&object, "b"),
+        ObjectView::contains_key(&object, "b"),
         "a reference finds its names",
     )
 }
 
+#[test]
+fn later_pairs_win(rt: HostRuntime) -> Result<(), Fail> {
+    let object = object_of(rt.alloc(), &[("a", 1i64), ("b", 2), ("a", 3)])?;
+    has_later_value(rt.alloc(), &object)
+}
+
+/// Puts a name into a map.
+fn add(
+    alloc: Global,
+    map: &mut HashMap<String, i64>,
+    name: &str,
+    number: i64,
+) -> Result<(), AllocError> {
+    drop(map.insert(String::from_str(alloc, name)?, number)?);
+    Ok(())
+}
+
+/// Puts three names into a map.
+fn add_three(alloc: Global, map: &mut HashMap<String, i64>) -> Result<(), AllocError> {
+    add(alloc, map, "b", 2)?;
+    add(alloc, map, "c", 3)?;
+    add(alloc, map, "a", 1)
+}
+
 fn three_names(alloc: Global) -> Result<HashMap<String, i64>, AllocError> {
     let mut map: HashMap<String, i64> = HashMap::new(alloc);
-    drop(map.insert(String::from_str(alloc, "b")?, 2)?);
-    drop(map.insert(String::from_str(alloc, "c")?, 3)?);
-    drop(map.insert(String::from_str(alloc, "a")?, 1)?);
+    add_three(alloc, &mut map)?;
     Ok(map)
 }
 
 #[test]
 fn maps_without_order_are_told_by_name(rt: HostRuntime) -> Result<(), Fail> {
     let alloc = rt.alloc();
-    let map = three_names(alloc)?;
     let source = "{\"a\": 1, \"b\": 2, \"c\": 3, }";
-    holds(shows(alloc, &map, "a1b2c3", source, "object")?, "its texts")?;
+    is_shown(alloc, &three_names(alloc)?, "a1b2c3", source, "object")?;
     let nothing: HashMap<String, i64> = HashMap::new(alloc);
-    holds(shows(alloc, &nothing, "", "{}", "object")?, "no names")
+    is_shown(alloc, &nothing, "", "{}", "object")
 }
 
 /// Fails unless a map has three names.

@@ -87,56 +87,85 @@ fn listed(alloc: Global, names: &Vec<&str>) -> Result<String, AllocError> {
     names.join(alloc, " ")
 }
 
+/// Adds names, each with a blank after it, to a text.
+fn add_each(all: &mut String, names: &BTreeSet<String>) -> Result<(), AllocError> {
+    for name in names {
+        write!(all, "{name} ")?;
+    }
+    Ok(())
+}
+
 fn joined(alloc: Global, names: &BTreeSet<String>) -> Result<String, AllocError> {
     let mut all = String::new(alloc);
-    for name in names {
-        all.push_str(name.as_str())?;
-        all.push_str(" ")?;
-    }
+    add_each(&mut all, names)?;
     Ok(all)
 }
 
-/// Returns the names of a registry, each with a blank after it.
-pub fn registered(alloc: Global, registry: &PluginRegistry<Filters>) -> Result<String, AllocError> {
-    let mut all = String::new(alloc);
+/// Adds the names of a registry, each with a blank after it, to a text.
+pub fn add_names(all: &mut String, registry: &PluginRegistry<Filters>) -> Result<(), AllocError> {
     for name in registry.plugin_names() {
-        all.push_str(name)?;
-        all.push_str(" ")?;
+        write!(all, "{name} ")?;
     }
+    Ok(())
+}
+
+fn registered(alloc: Global, registry: &PluginRegistry<Filters>) -> Result<String, AllocError> {
+    let mut all = String::new(alloc);
+    add_names(&mut all, registry)?;
     Ok(all)
 }
 
-/// Returns the text of a result that is a part of a template or of a language, or an error.
+/// Returns the text of a result that is a part of a template or of a language.
 fn part_shown(alloc: Global, answer: &Answer<'_>) -> Result<String, AllocError> {
     match answer {
-        Answer::Cause(cause) => cause.to_string(alloc),
-        Answer::Kept(kept) => kept.to_string(alloc),
         Answer::Expression(expression) => expression.to_string(alloc),
         Answer::Variable(variable) => variable.to_string(alloc),
         Answer::Chain(chain) => chain.to_string(alloc),
         Answer::Registry(registry) => registered(alloc, registry),
         Answer::Language(language) => registered(alloc, &language.filters),
+        _ => Ok(String::new(alloc)),
+    }
+}
+
+/// Returns the text of a result that is an error, names or a part.
+fn other_shown(alloc: Global, answer: &Answer<'_>) -> Result<String, AllocError> {
+    match answer {
+        Answer::Cause(cause) => cause.to_string(alloc),
+        Answer::Kept(kept) => kept.to_string(alloc),
         Answer::Refused(error) => error.to_string(alloc),
         Answer::Names(names) => joined(alloc, names),
         Answer::Listed(names) => listed(alloc, names),
-        _ => Ok(String::new(alloc)),
+        part => part_shown(alloc, part),
+    }
+}
+
+/// Returns the text of a result that is a value, a path or JSON, or another part.
+fn value_shown(alloc: Global, answer: &Answer<'_>) -> Result<String, AllocError> {
+    match answer {
+        Answer::Value(value) => ValueSource::new(value).to_string(alloc),
+        Answer::Found(value) => ValueSource::new(value.as_view()).to_string(alloc),
+        Answer::Path(path) => path.to_string(alloc),
+        Answer::Json(json) => json.to_string(alloc),
+        other => other_shown(alloc, other),
+    }
+}
+
+/// Returns the text of a result with memory.
+fn text_of(alloc: Global, answer: &Answer<'_>) -> Result<String, AllocError> {
+    match answer {
+        Answer::Done => String::from_str(alloc, "done"),
+        Answer::Nothing => String::from_str(alloc, "nothing"),
+        Answer::Truth(truth) => truth.to_string(alloc),
+        Answer::Text(text) => text.clone(),
+        Answer::Shown(text) => String::from_str(alloc, text.as_str()),
+        value => value_shown(alloc, value),
     }
 }
 
 /// Returns the result's text, or `None` if it is out of memory.
 pub fn shown(alloc: Global, answer: &Answer<'_>) -> Result<Option<String>, Problem> {
-    let text = match answer {
-        Answer::Memory => return Ok(None),
-        Answer::Done => String::from_str(alloc, "done")?,
-        Answer::Nothing => String::from_str(alloc, "nothing")?,
-        Answer::Truth(truth) => format!(in alloc; "{truth}")?,
-        Answer::Text(text) => text.clone()?,
-        Answer::Shown(text) => String::from_str(alloc, text.as_str())?,
-        Answer::Value(value) => ValueSource::new(value).to_string(alloc)?,
-        Answer::Found(value) => ValueSource::new(value.as_view()).to_string(alloc)?,
-        Answer::Path(path) => path.to_string(alloc)?,
-        Answer::Json(json) => json.to_string(alloc)?,
-        part => part_shown(alloc, part)?,
-    };
-    Ok(Some(text))
+    match answer {
+        Answer::Memory => Ok(None),
+        answer => Ok(Some(text_of(alloc, answer)?)),
+    }
 }

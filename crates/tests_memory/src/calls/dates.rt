@@ -7,7 +7,7 @@ use std::alloc::Global;
 /// Makes a call of dates.
 pub fn call<'g>(alloc: Global, word: &str, given: &'g mut Given) -> Answered<'g> {
     match word {
-        "format" => Ok(Answer::Text(DateTime::format(&given.moment, alloc, "%Y-%j, %A")?)),
-        _ => Ok(Answer::Text(DateTime::to_rfc2822(given.moment, alloc)?)),
+        "format" => Ok(Answer::Text(DateTime::format(&given.alone.moment, alloc, "%Y-%j, %A")?)),
+        _ => Ok(Answer::Text(DateTime::to_rfc2822(given.alone.moment, alloc)?)),
     }
 }

@@ -22,17 +22,18 @@ fn cloned_report<'g>(error: Error) -> Answered<'g> {
 /// Makes the calls of Results that have an error.
 fn of_results<'g>(alloc: Global, word: &str, error: Error) -> Answered<'g> {
     let failed: Result<()> = Err(error);
-    match word {
-        "trace_result" => ResultLiquidExt::trace(failed, alloc, "t")?,
-        "key" => Key::value(ResultLiquidExt::context_key(failed, "k"), alloc, "v")?,
+    let answered = match word {
+        "trace_result" => ResultLiquidExt::trace(failed, alloc, "t"),
+        "key" => Key::value(ResultLiquidExt::context_key(failed, "k"), alloc, "v"),
         "made_key" => {
             let made = || String::from_str(alloc, "k");
-            FnKey::value(ResultLiquidExt::context_key_with(failed, made), alloc, "v")?
+            FnKey::value(ResultLiquidExt::context_key_with(failed, made), alloc, "v")
         }
-        "chain" => ResultLiquidChainExt::chain(failed, alloc, "b")?,
-        "lossy_chain" => ResultLiquidReplaceExt::lossy_chain(failed, alloc, "b")?,
-        _ => ResultLiquidReplaceExt::replace(failed, alloc, "b")?,
-    }
+        "chain" => ResultLiquidChainExt::chain(failed, alloc, "b"),
+        "lossy_chain" => ResultLiquidReplaceExt::lossy_chain(failed, alloc, "b"),
+        _ => ResultLiquidReplaceExt::replace(failed, alloc, "b"),
+    };
+    answered?;
     Ok(Answer::Done)
 }
 
@@ -41,7 +42,7 @@ fn of_new<'g>(alloc: Global, word: &str, given: &'g mut Given) -> Answered<'g> {
     match word {
         "with_msg" => Ok(Answer::from(Error::with_msg(alloc, "m"))),
         "with_text" => {
-            let text = std::mem::replace(&mut given.text, String::new(alloc));
+            let text = std::mem::replace(&mut given.alone.text, String::new(alloc));
             Ok(Answer::from(Error::with_text(alloc, text)))
         }
         _ => {
@@ -53,13 +54,13 @@ fn of_new<'g>(alloc: Global, word: &str, given: &'g mut Given) -> Answered<'g> {
 
 /// Returns the error that a call takes.
 fn error(given: &mut Given) -> Error {
-    std::mem::replace(&mut given.error, Error::Memory)
+    std::mem::replace(&mut given.errors.error, Error::Memory)
 }
 
 /// Makes an error the cause of another.
 fn caused<'g>(alloc: Global, given: &'g mut Given) -> Answered<'g> {
     let none = Cause::Error(Box::new(alloc, Error::Memory)?);
-    let cause = std::mem::replace(&mut given.cause, none);
+    let cause = std::mem::replace(&mut given.errors.cause, none);
     Ok(Answer::from(Error::cause(error(given), cause)))
 }
 
@@ -78,9 +79,9 @@ fn of_changes<'g>(alloc: Global, word: &str, error: Error) -> Answered<'g> {
 /// Makes the calls that copy an error, a cause or an error that is kept.
 fn of_copies<'g>(word: &str, given: &'g Given) -> Answered<'g> {
     match word {
-        "clone" => Ok(Answer::from(Error::clone(&given.error)?)),
-        "clone_cause" => Ok(Answer::Cause(Cause::clone(&given.cause)?)),
-        _ => Ok(Answer::Kept(CloneableError::clone(&given.kept)?)),
+        "clone" => Ok(Answer::from(Error::clone(&given.errors.error)?)),
+        "clone_cause" => Ok(Answer::Cause(Cause::clone(&given.errors.cause)?)),
+        _ => Ok(Answer::Kept(CloneableError::clone(&given.errors.kept)?)),
     }
 }
 

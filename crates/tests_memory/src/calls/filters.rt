@@ -4,7 +4,7 @@ use crate::problem::{Problem, both};
 use liquid_core::Error;
 use liquid_core::model::{Value, ValueCow, ValueRender, to_value};
 use serde_json::Value as Json;
-use std::alloc::Global;
+use std::alloc::{AllocError, Global};
 use std_filters::{CallArguments, FilterKind, StdKind, filters};
 
 /// The standard filters, each with its input and its arguments as JSON, and the text of what it returns, up to a bar at
@@ -77,13 +77,17 @@ fn parts(row: &'static str) -> Option<Row> {
     Some((name, input, arguments, wanted))
 }
 
+/// Returns the parts of a row, or `None` if it is the row of another filter.
+fn parts_for(row: &'static str, word: &str) -> Option<Row> {
+    let parts = parts(row)?;
+    if parts.0 == word { Some(parts) } else { None }
+}
+
 /// Returns the row of the filter of this name.
 fn row(word: &str) -> Result<Row, Problem> {
     for row in ROWS.split("|\n") {
-        if let Some(parts) = parts(row) {
-            if parts.0 == word {
-                return Ok(parts);
-            }
+        if let Some(parts) = parts_for(row, word) {
+            return Ok(parts);
         }
     }
     Err(Problem::Case)
@@ -110,16 +114,32 @@ fn value(alloc: Global, json: &str) -> Result<Value, Problem> {
     Ok(value?)
 }
 
-/// Returns the items of a list as arguments.
-fn arguments_of(alloc: Global, list: &Value) -> Result<Vec<ValueCow<'static>>, Problem> {
-    let Value::Array(items) = list else {
-        return Err(Problem::Row);
-    };
-    let mut all = Vec::new(alloc);
-    for item in items.as_array() {
+/// Puts copies of these items after other arguments.
+fn add_copies<'s>(all: &mut Vec<ValueCow<'s>>, items: &[Value]) -> Result<(), AllocError> {
+    for item in items {
         all.push(ValueCow::Owned(item.clone()?))?;
     }
-    Ok(all)
+    Ok(())
+}
+
+/// Returns copies of these items as arguments.
+fn copies(alloc: Global, items: &[Value]) -> Result<Vec<ValueCow<'static>>, Problem> {
+    let mut all = Vec::new(alloc);
+    match add_copies(&mut all, items) {
+        Ok(()) => Ok(all),
+        Err(error) => {
+            drop(all);
+            Err(Problem::from(error))
+        }
+    }
+}
+
+/// Returns the items of a list as arguments.
+fn arguments_of(alloc: Global, list: &Value) -> Result<Vec<ValueCow<'static>>, Problem> {
+    match list {
+        Value::Array(items) => copies(alloc, items.as_array()),
+        _ => Err(Problem::Row),
+    }
 }
 
 /// Returns the arguments of a list.
@@ -130,18 +150,21 @@ fn arguments(alloc: Global, json: &str) -> Result<Vec<ValueCow<'static>>, Proble
     arguments
 }
 
+/// Compares a value's text with the one that is wanted.
+fn value_told(alloc: Global, value: Value, wanted: &str) -> Result<Told, Problem> {
+    let text = ValueRender::new(&value).to_string(alloc);
+    drop(value);
+    Ok(Told::Whole.only_if(text?.as_str() == wanted))
+}
+
 /// Compares a result with the text that is wanted.
 fn told(alloc: Global, answer: Result<Value, Error>, wanted: &str) -> Result<Told, Problem> {
     match answer {
-        Ok(value) => {
-            let text = ValueRender::new(&value).to_string(alloc);
-            drop(value);
-            Ok(Told::Whole.only_if(text?.as_str() == wanted))
-        }
-        Err(Error::Memory) => Ok(Told::Memory),
+        Ok(value) => value_told(alloc, value, wanted),
         Err(error) => {
+            let is_memory = error.is_memory();
             drop(error);
-            Ok(Told::Other)
+            Ok(if is_memory { Told::Memory } else { Told::Other })
         }
     }
 }

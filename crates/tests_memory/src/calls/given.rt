@@ -1,40 +1,75 @@
 //! What the calls are made with.
 use crate::built::{Built, built};
-use crate::calls::answers::registered;
 use crate::problem::{Problem, both};
 use bench::filters::AnyFilter;
 use bench::languages::language;
 use bench::{Blocks, Filters, Tags};
 use liquid_core::Error;
 use liquid_core::error::{Cause, CauseOf, CloneableError};
-use liquid_core::model::{DateTime, Object, Path, ScalarCow, Value, ValueSource, to_object};
+use liquid_core::model::{DateTime, Object, Path, ScalarCow, Value, to_object};
 use liquid_core::parser::{FilterArguments, FilterChain, Language, ParseFilter, parse_variable};
-use liquid_core::runtime::{Expression, Runtime, Variable};
+use liquid_core::runtime::{Expression, Variable};
 use serde_json::Value as Json;
-use std::alloc::Global;
+use std::alloc::{AllocError, Global};
 
-/// What all calls are made with. Calls that take a whole value take the error, the text and the member.
+/// An error, a cause and an error that is kept. Calls take the error and the cause whole.
 #[derive(Drop)]
-pub struct Given {
+pub struct Errors {
     pub error: Error,
     pub cause: Cause,
     pub kept: CloneableError,
+}
+
+/// What calls take whole or copy: a name, a member and a date-time.
+#[derive(Drop)]
+pub struct Alone {
     pub text: String,
     pub member: Value,
+    pub moment: DateTime,
+}
+
+/// The globals as JSON and as an object, and a list. Calls take the JSON whole.
+#[derive(Drop)]
+pub struct Values {
     pub json: Json,
     pub object: Object,
     pub value: Value,
-    pub moment: DateTime,
+}
+
+/// What leads to data: a path, and a variable by itself and as an expression.
+#[derive(Drop)]
+pub struct Ways {
     pub path: Path<'static>,
     pub variable: Variable,
     pub expression: Expression,
+}
+
+/// What calls put into an object, an array, a path and a variable.
+#[derive(Drop)]
+pub struct Added {
     pub pairs: Vec<(String, Value)>,
     pub items: Vec<Value>,
     pub indexes: Vec<ScalarCow<'static>>,
     pub expressions: Vec<Expression>,
+}
+
+/// What renders.
+#[derive(Drop)]
+pub struct Engine {
     pub chain: FilterChain<AnyFilter>,
     pub language: Language<Filters, Tags, Blocks>,
     pub runtime: Built,
+}
+
+/// What all calls are made with.
+#[derive(Drop)]
+pub struct Given {
+    pub errors: Errors,
+    pub alone: Alone,
+    pub values: Values,
+    pub ways: Ways,
+    pub added: Added,
+    pub engine: Engine,
 }
 
 /// The object of all globals.
@@ -93,10 +128,16 @@ fn chain(alloc: Global) -> Result<FilterChain<AnyFilter>, Problem> {
     Ok(FilterChain::new(Expression::Variable(entry), filters))
 }
 
+fn add_pair(alloc: Global, pairs: &mut Vec<(String, Value)>, name: &str) -> Result<(), AllocError> {
+    let name = String::from_str(alloc, name)?;
+    pairs.push((name, Value::scalar(1i64)))?;
+    Ok(())
+}
+
 fn pairs(alloc: Global) -> Result<Vec<(String, Value)>, Problem> {
     let mut pairs = Vec::new(alloc);
     for name in ["x", "y", "z"] {
-        pairs.push((text(alloc, name)?, Value::scalar(1i64)))?;
+        add_pair(alloc, &mut pairs, name)?;
     }
     Ok(pairs)
 }
@@ -125,13 +166,6 @@ fn expressions(alloc: Global) -> Result<Vec<Expression>, Problem> {
     Ok(expressions)
 }
 
-/// Returns an error, a cause and an error that is kept.
-fn errors(alloc: Global) -> Result<(Error, Cause, CloneableError), Problem> {
-    let causes = both(cause(alloc), kept(alloc));
-    let (error, (cause, kept)) = both(error(alloc), causes)?;
-    Ok((error, cause, kept))
-}
-
 fn cause(alloc: Global) -> Result<Cause, Problem> {
     Ok(CauseOf::Error(Box::new(alloc, error(alloc)?)?))
 }
@@ -152,13 +186,6 @@ fn value(alloc: Global) -> Result<Value, Problem> {
     Ok(value?)
 }
 
-/// Returns the globals as JSON and as an object, and a list.
-fn values(alloc: Global) -> Result<(Json, Object, Value), Problem> {
-    let parts = both(json(alloc, GLOBALS), object(alloc));
-    let ((json, object), value) = both(parts, value(alloc))?;
-    Ok((json, object, value))
-}
-
 fn path(alloc: Global) -> Result<Path<'static>, Problem> {
     let mut path = Path::with_index(alloc, "a")?;
     match path.push("b") {
@@ -170,152 +197,119 @@ fn path(alloc: Global) -> Result<Path<'static>, Problem> {
     }
 }
 
-/// Returns a variable, by itself and as an expression.
-fn variables(alloc: Global) -> Result<(Variable, Expression), Problem> {
-    let (one, other) = both(variable(alloc, "a[i]"), variable(alloc, "a[i]"))?;
-    Ok((one, Expression::Variable(other)))
-}
-
 fn member(alloc: Global) -> Result<Value, Problem> {
     Ok(Value::scalar(text(alloc, "m")?))
-}
-
-/// Returns a name, a member and a date time.
-fn alone(alloc: Global) -> Result<(String, Value, DateTime), Problem> {
-    let moment = DateTime::from_ymd(2016, 2, 16)?;
-    let (text, member) = both(text(alloc, "n"), member(alloc))?;
-    Ok((text, member, moment))
-}
-
-/// The parts that are data, by the functions that make them.
-type Data = (
-    (Error, Cause, CloneableError),
-    ((Json, Object, Value), (String, Value, DateTime)),
-);
-
-/// The parts that lead to data, and what calls put into them.
-type Ways = (
-    (Path<'static>, (Variable, Expression)),
-    (
-        (Vec<(String, Value)>, Vec<Value>),
-        (Vec<ScalarCow<'static>>, Vec<Expression>),
-    ),
-);
-
-/// The parts that render.
-type Engine = (
-    FilterChain<AnyFilter>,
-    (Language<Filters, Tags, Blocks>, Built),
-);
-
-fn data(alloc: Global) -> Result<Data, Problem> {
-    let values = both(values(alloc), alone(alloc));
-    both(errors(alloc), values)
-}
-
-fn ways(alloc: Global) -> Result<Ways, Problem> {
-    let members = both(pairs(alloc), items(alloc));
-    let steps = both(indexes(alloc), expressions(alloc));
-    let ways = both(path(alloc), variables(alloc));
-    let added = both(members, steps);
-    both(ways, added)
 }
 
 fn the_language(alloc: Global) -> Result<Language<Filters, Tags, Blocks>, Problem> {
     Ok(language(alloc)?)
 }
 
-fn engine(alloc: Global) -> Result<Engine, Problem> {
-    let parts = both(the_language(alloc), runtime(alloc));
-    both(chain(alloc), parts)
+impl Errors {
+    fn new(alloc: Global) -> Result<Errors, Problem> {
+        let causes = both(cause(alloc), kept(alloc));
+        let (error, (cause, kept)) = both(error(alloc), causes)?;
+        Ok(Errors { error, cause, kept })
+    }
 }
 
-impl Given {
-    /// Makes each part by its own function.
-    pub fn new(alloc: Global) -> Result<Given, Problem> {
-        let parts = both(ways(alloc), engine(alloc));
-        let (data, (ways, engine)) = both(data(alloc), parts)?;
-        let ((error, cause, kept), ((json, object, value), (text, member, moment))) = data;
-        let ((path, (variable, expression)), steps) = ways;
-        let ((pairs, items), (indexes, expressions)) = steps;
-        let (chain, (language, runtime)) = engine;
-        Ok(Given {
-            error,
-            cause,
-            kept,
+impl Alone {
+    fn new(alloc: Global) -> Result<Alone, Problem> {
+        let moment = DateTime::from_ymd(2016, 2, 16)?;
+        let (text, member) = both(text(alloc, "n"), member(alloc))?;
+        Ok(Alone {
             text,
             member,
+            moment,
+        })
+    }
+}
+
+impl Values {
+    fn new(alloc: Global) -> Result<Values, Problem> {
+        let parts = both(object(alloc), value(alloc));
+        let (json, (object, value)) = both(json(alloc, GLOBALS), parts)?;
+        Ok(Values {
             json,
             object,
             value,
-            moment,
+        })
+    }
+}
+
+impl Ways {
+    fn new(alloc: Global) -> Result<Ways, Problem> {
+        let variables = both(variable(alloc, "a[i]"), variable(alloc, "a[i]"));
+        let (path, (variable, other)) = both(path(alloc), variables)?;
+        Ok(Ways {
             path,
             variable,
-            expression,
+            expression: Expression::Variable(other),
+        })
+    }
+}
+
+impl Added {
+    fn new(alloc: Global) -> Result<Added, Problem> {
+        let members = both(pairs(alloc), items(alloc));
+        let steps = both(indexes(alloc), expressions(alloc));
+        let ((pairs, items), (indexes, expressions)) = both(members, steps)?;
+        Ok(Added {
             pairs,
             items,
             indexes,
             expressions,
+        })
+    }
+}
+
+impl Engine {
+    fn new(alloc: Global) -> Result<Engine, Problem> {
+        let parts = both(the_language(alloc), runtime(alloc));
+        let (chain, (language, runtime)) = both(chain(alloc), parts)?;
+        Ok(Engine {
             chain,
             language,
             runtime,
         })
     }
+}
+
+/// What calls are given besides the engine, in pairs.
+type Parts = ((Errors, Alone), (Values, (Ways, Added)));
+
+fn parts(alloc: Global) -> Result<Parts, Problem> {
+    let alone = both(Errors::new(alloc), Alone::new(alloc));
+    let ways = both(Ways::new(alloc), Added::new(alloc));
+    both(alone, both(Values::new(alloc), ways))
+}
+
+/// Makes a part again.
+fn renew<T: Drop>(part: &mut T, made: Result<T, Problem>) -> Result<(), Problem> {
+    let old = std::mem::replace(part, made?);
+    drop(old);
+    Ok(())
+}
+
+impl Given {
+    /// Makes each part by its own function.
+    pub fn new(alloc: Global) -> Result<Given, Problem> {
+        let (parts, engine) = both(parts(alloc), Engine::new(alloc))?;
+        let ((errors, alone), (values, (ways, added))) = parts;
+        Ok(Given {
+            errors,
+            alone,
+            values,
+            ways,
+            added,
+            engine,
+        })
+    }
 
     /// Makes again what calls take whole.
     pub fn refresh(&mut self, alloc: Global) -> Result<(), Problem> {
-        self.error = error(alloc)?;
-        self.cause = cause(alloc)?;
-        self.text = text(alloc, "n")?;
-        self.member = member(alloc)?;
-        self.json = json(alloc, GLOBALS)?;
-        Ok(())
+        renew(&mut self.errors, Errors::new(alloc))?;
+        renew(&mut self.alone, Alone::new(alloc))?;
+        renew(&mut self.values.json, json(alloc, GLOBALS))
     }
-
-    /// Returns the text of all that a call may change.
-    pub fn shown(&self, alloc: Global) -> Result<String, Problem> {
-        let path = self.path.to_string(alloc)?;
-        let variable = self.variable.to_string(alloc)?;
-        let chain = self.chain.to_string(alloc)?;
-        let value = ValueSource::new(&self.value).to_string(alloc)?;
-        let filters = registered(alloc, &self.language.filters)?;
-        let names = names_of(alloc, &self.object)?;
-        let runtime = names_shown(alloc, &self.runtime)?;
-        Ok(format!(in alloc; "{path}|{variable}|{chain}|{value}|{filters}|{names}|{runtime}")?)
-    }
-}
-
-/// Returns the text of what a call extends.
-pub fn extended(alloc: Global, given: &Given, word: &str) -> Result<String, Problem> {
-    match word {
-        "extend" => Ok(given.path.to_string(alloc)?),
-        "variable_extend" => Ok(given.variable.to_string(alloc)?),
-        "object_extend" => names_of(alloc, &given.object),
-        _ => Ok(ValueSource::new(&given.value).to_string(alloc)?),
-    }
-}
-
-/// Returns the names of an object, with the source of each value.
-fn names_of(alloc: Global, object: &Object) -> Result<String, Problem> {
-    let mut all = String::new(alloc);
-    for (name, value) in object {
-        all.push_str(name.as_str())?;
-        all.push_str(ValueSource::new(value).to_string(alloc)?.as_str())?;
-    }
-    Ok(all)
-}
-
-/// Returns what names have a value, and which index variables.
-fn names_shown<R: Runtime>(alloc: Global, runtime: &R) -> Result<String, Problem> {
-    let mut all = String::new(alloc);
-    for name in ["a", "i", "n", "own"] {
-        let Some(value) = runtime.try_get_name(name) else {
-            continue;
-        };
-        all.push_str(ValueSource::new(value).to_string(alloc)?.as_str())?;
-    }
-    if runtime.get_index("n").is_some() {
-        all.push_str("+")?;
-    }
-    Ok(all)
 }

@@ -33,16 +33,23 @@ fn of_text<'g>(alloc: Global) -> Answered<'g> {
 
 /// Returns the JSON that a call takes.
 fn json(given: &mut Given) -> Json {
-    std::mem::replace(&mut given.json, Json::Null)
+    std::mem::replace(&mut given.values.json, Json::Null)
+}
+
+/// Makes the calls that take JSON whole.
+fn of_wholes<'g>(alloc: Global, word: &str, json: Json) -> Answered<'g> {
+    match word {
+        "into_value" => Ok(Answer::Value(into_value(alloc, json)?)),
+        _ => Ok(Answer::Value(Value::from(into_object(alloc, json)?))),
+    }
 }
 
 /// Makes a call of JSON.
 pub fn call<'g>(alloc: Global, word: &str, given: &'g mut Given) -> Answered<'g> {
     match word {
-        "to_value" | "to_object" | "to_scalar" => of_reads(alloc, word, &given.json),
-        "into_value" => Ok(Answer::Value(into_value(alloc, json(given))?)),
-        "into_object" => Ok(Answer::Value(Value::from(into_object(alloc, json(given))?))),
+        "to_value" | "to_object" | "to_scalar" => of_reads(alloc, word, &given.values.json),
+        "into_value" | "into_object" => of_wholes(alloc, word, json(given)),
         "object_from_str" => of_text(alloc),
-        _ => Ok(Answer::Json(from_value(alloc, &given.value)?)),
+        _ => Ok(Answer::Json(from_value(alloc, &given.values.value)?)),
     }
 }

@@ -1,6 +1,7 @@
 //! Trials of the calls of a group.
 use crate::calls::answers::{Answer, shown};
-use crate::calls::given::{Given, extended};
+use crate::calls::given::Given;
+use crate::calls::texts::extended;
 use crate::calls::wanted::wanted;
 use crate::calls::{dates, errors, filters, json_calls, paths, plugins, runtimes, scopes, values};
 use crate::growths::{MOST, Run, Seen, Told, taken};

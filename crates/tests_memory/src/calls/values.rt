@@ -19,14 +19,16 @@ fn of_number<'g>(alloc: Global, number: &ScalarCow<'_>) -> Answered<'g> {
     Ok(Answer::Text(String::from_str(alloc, text.as_str())?))
 }
 
-/// Makes the calls that take a scalar whole.
-fn of_wholes<'g>(alloc: Global, word: &str) -> Answered<'g> {
-    let number = ScalarCow::from(7i64);
+/// Makes the calls that take a number whole, or return its text and let it stay.
+fn of_numbers<'g>(alloc: Global, word: &str, number: ScalarCow<'static>) -> Answered<'g> {
     match word {
-        "scalar_to_kstr" => of_number(alloc, &number),
         "into_string" => Ok(Answer::Text(ScalarCow::into_string(number, alloc)?)),
         "into_cow_str" => Ok(Answer::Shown(ScalarCow::into_cow_str(number, alloc)?)),
-        _ => Ok(Answer::Nothing),
+        _ => {
+            let answered = of_number(alloc, &number);
+            drop(number);
+            answered
+        }
     }
 }
 
@@ -38,32 +40,32 @@ fn of_scalars<'g>(alloc: Global, word: &str, member: &Value) -> Answered<'g> {
             let owned = ScalarCow::into_owned(ScalarCow::from("seven"), alloc)?;
             Ok(Answer::Value(Value::Scalar(owned)))
         }
-        _ => of_wholes(alloc, word),
+        _ => of_numbers(alloc, word, ScalarCow::from(7i64)),
     }
 }
 
 /// Returns the name that a call takes.
 fn name(alloc: Global, given: &mut Given) -> String {
-    std::mem::replace(&mut given.text, String::new(alloc))
+    std::mem::replace(&mut given.alone.text, String::new(alloc))
 }
 
 /// Returns the member that a call takes.
 fn member(given: &mut Given) -> Value {
-    std::mem::replace(&mut given.member, Value::Nil)
+    std::mem::replace(&mut given.alone.member, Value::Nil)
 }
 
 /// Puts a member into an object.
 fn inserted<'g>(alloc: Global, given: &'g mut Given) -> Answered<'g> {
     let (name, member) = (name(alloc, given), member(given));
-    let old = Object::insert(&mut given.object, name, member)?;
+    let old = Object::insert(&mut given.values.object, name, member)?;
     drop(old);
     Ok(Answer::Done)
 }
 
 /// Puts pairs into an object.
 fn extended<'g>(alloc: Global, given: &'g mut Given) -> Answered<'g> {
-    let pairs = std::mem::replace(&mut given.pairs, Vec::new(alloc));
-    given.object.extend(pairs)?;
+    let pairs = std::mem::replace(&mut given.added.pairs, Vec::new(alloc));
+    given.values.object.extend(pairs)?;
     Ok(Answer::Done)
 }
 
@@ -88,7 +90,7 @@ fn push(value: &mut Value, item: Value) -> Result<bool, AllocError> {
 /// Puts an item after the items of an array.
 fn pushed<'g>(given: &'g mut Given) -> Answered<'g> {
     let member = member(given);
-    if push(&mut given.value, member)? {
+    if push(&mut given.values.value, member)? {
         Ok(Answer::Done)
     } else {
         Ok(Answer::Nothing)
@@ -97,8 +99,8 @@ fn pushed<'g>(given: &'g mut Given) -> Answered<'g> {
 
 /// Puts items after those of an array.
 fn lengthened<'g>(alloc: Global, given: &'g mut Given) -> Answered<'g> {
-    let items = std::mem::replace(&mut given.items, Vec::new(alloc));
-    let Some(array) = given.value.as_array_mut() else {
+    let items = std::mem::replace(&mut given.added.items, Vec::new(alloc));
+    let Some(array) = given.values.value.as_array_mut() else {
         drop(items);
         return Ok(Answer::Nothing);
     };
@@ -116,9 +118,9 @@ fn lengthened<'g>(alloc: Global, given: &'g mut Given) -> Answered<'g> {
 
 /// Writes to an array that another value shares, and returns the other value.
 fn of_shared_arrays<'g>(given: &'g mut Given) -> Answered<'g> {
-    let other = Value::clone(&given.value)?;
+    let other = Value::clone(&given.values.value)?;
     let member = member(given);
-    match push(&mut given.value, member) {
+    match push(&mut given.values.value, member) {
         Ok(_) => Ok(Answer::Value(other)),
         Err(error) => {
             drop(other);
@@ -151,7 +153,7 @@ fn insert(value: &mut Value, name: String, member: Value) -> Result<(), AllocErr
 /// Writes to an object that another value shares, and returns the other value.
 fn of_shared_objects<'g>(alloc: Global, given: &'g mut Given) -> Answered<'g> {
     let (name, member) = (name(alloc, given), member(given));
-    let Some(value) = given.object.get_mut("a") else {
+    let Some(value) = given.values.object.get_mut("a") else {
         drop(name);
         drop(member);
         return Ok(Answer::Nothing);
@@ -182,8 +184,8 @@ fn written_alone<'g>(value: &mut Value, name: String, member: Value) -> Answered
 fn of_objects<'g>(alloc: Global, word: &str, given: &'g Given) -> Answered<'g> {
     match word {
         "object_of" => Ok(Answer::Value(Value::from(object_of(alloc, &[("k", 1i64)])?))),
-        "keys" => Ok(Answer::Listed(ObjectView::keys(&given.object, alloc)?)),
-        _ => match ObjectView::lookup(&given.object, alloc, "a")? {
+        "keys" => Ok(Answer::Listed(ObjectView::keys(&given.values.object, alloc)?)),
+        _ => match ObjectView::lookup(&given.values.object, alloc, "a")? {
             Some(value) => Ok(Answer::Found(value)),
             None => Ok(Answer::Nothing),
         },
@@ -194,7 +196,7 @@ fn of_objects<'g>(alloc: Global, word: &str, given: &'g Given) -> Answered<'g> {
 fn of_arrays<'g>(alloc: Global, word: &str, given: &'g mut Given) -> Answered<'g> {
     match word {
         "array" => {
-            let items = std::mem::replace(&mut given.items, Vec::new(alloc));
+            let items = std::mem::replace(&mut given.added.items, Vec::new(alloc));
             Ok(Answer::Value(Value::array(alloc, items.into_iter())?))
         }
         _ => Ok(Answer::Value(Value::from(array_of(alloc, &["a", "b"])?))),
@@ -204,10 +206,12 @@ fn of_arrays<'g>(alloc: Global, word: &str, given: &'g mut Given) -> Answered<'g
 /// Makes the calls that copy a value, or show its text.
 fn of_copies<'g>(alloc: Global, word: &str, given: &'g Given) -> Answered<'g> {
     match word {
-        "clone" => Ok(Answer::Value(Value::clone(&given.value)?)),
-        "into_owned" => Ok(Answer::Value(ValueCow::into_owned(ValueCow::Borrowed(&given.value))?)),
-        "to_value" => Ok(Answer::Value(ValueView::to_value(&given.value, alloc)?)),
-        _ => Ok(Answer::Shown(Value::to_kstr(&given.value, alloc)?)),
+        "clone" => Ok(Answer::Value(Value::clone(&given.values.value)?)),
+        "into_owned" => Ok(Answer::Value(ValueCow::into_owned(ValueCow::Borrowed(
+            &given.values.value,
+        ))?)),
+        "to_value" => Ok(Answer::Value(ValueView::to_value(&given.values.value, alloc)?)),
+        _ => Ok(Answer::Shown(Value::to_kstr(&given.values.value, alloc)?)),
     }
 }
 
@@ -239,7 +243,7 @@ pub fn call<'g>(alloc: Global, word: &str, given: &'g mut Given) -> Answered<'g>
         "object_of" | "lookup" | "keys" => of_objects(alloc, word, given),
         "cow_clone" => copied(given),
         "scalar_clone" | "scalar_into_owned" | "scalar_to_kstr" | "into_string" | "into_cow_str" =>
-            { of_scalars(alloc, word, &given.member) }
+            { of_scalars(alloc, word, &given.alone.member) }
         _ => of_writes(alloc, word, given),
     }
 }

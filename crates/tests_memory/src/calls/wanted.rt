@@ -122,13 +122,21 @@ values shared_object_insert | {"b": 1two, }|
 values keys | a i|
 "#;
 
+/// Returns the text of a row's result, or `None` if the row is of another call.
+fn wanted_in(row: &'static str, group: &str, word: &str) -> Option<&'static str> {
+    let (call, wanted) = row.split_once(" | ")?;
+    if call.split_once(' ') == Some((group, word)) {
+        Some(wanted)
+    } else {
+        None
+    }
+}
+
 /// Returns what a call returns with ample memory, or an empty text if no call has this name.
 pub fn wanted(group: &str, word: &str) -> &'static str {
     for row in CALLS.split("|\n") {
-        if let Some((call, wanted)) = row.split_once(" | ") {
-            if call.split_once(' ') == Some((group, word)) {
-                return wanted;
-            }
+        if let Some(wanted) = wanted_in(row, group, word) {
+            return wanted;
         }
     }
     ""

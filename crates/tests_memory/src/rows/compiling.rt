@@ -77,8 +77,8 @@ where
     C: PartialCompiler<F, T, B> + OfSource + Drop,
     C::Store: Drop,
 {
-    let (one, other) = both(compiler::<C>(alloc, row), compiler::<C>(alloc, row))?;
-    let requests = row.requests(alloc)?;
+    let compilers = both(compiler::<C>(alloc, row), compiler::<C>(alloc, row));
+    let ((one, other), requests) = both(compilers, row.requests(alloc))?;
     let first = run(alloc, requests.as_slice(), one, language, boxes);
     let next = run(alloc, requests.as_slice(), other, language, 0);
     drop(requests);

@@ -45,6 +45,21 @@ where
     run
 }
 
+/// Renders after that many boxes, in a sandbox over a host of its own.
+fn run_anew<X, T, B>(
+    alloc: Global,
+    row: &Row,
+    page: &Template<X, T, B>,
+    boxes: usize,
+) -> Result<Run, Problem>
+where
+    X: Filter,
+    T: Renderable<()>,
+    B: Renderable<()>,
+{
+    run(alloc, row, page, built(alloc, Object::new(alloc)), boxes)
+}
+
 /// Renders in a sandbox after that many boxes, and then once more in another one.
 pub fn leaked<F, T, B>(
     alloc: Global,
@@ -62,8 +77,8 @@ where
     let page = page(alloc, row, &language);
     drop(language);
     let page = page?;
-    let first = run(alloc, row, &page, built(alloc, Object::new(alloc)), boxes);
-    let next = run(alloc, row, &page, built(alloc, Object::new(alloc)), 0);
+    let first = run_anew(alloc, row, &page, boxes);
+    let next = run_anew(alloc, row, &page, 0);
     drop(page);
     Seen::of(first, next)
 }

@@ -33,7 +33,7 @@ where
 }
 
 /// Returns `true` if this is the text of the error.
-fn is_said(alloc: Global, error: &Error, text: &str) -> Result<bool, Problem> {
+pub fn is_said(alloc: Global, error: &Error, text: &str) -> Result<bool, Problem> {
     Ok(error.to_string(alloc)?.as_str() == text)
 }
 

@@ -1,6 +1,6 @@
 //! Requests to stores.
 use crate::growths::{MOST, Run, Seen, Told, taken};
-use crate::problem::Problem;
+use crate::problem::{Problem, both};
 use crate::rows::row::Row;
 use crate::rows::stores::{OfSource, Request, all_told, request_told, store};
 use liquid_core::parser::{Language, ParseBlock, ParseFilter, ParseTag};
@@ -89,6 +89,24 @@ fn is_kept_so<X, T, B>(answered: &Answered<X, T, B>, told: Told, is_there: bool)
     }
 }
 
+/// Returns what one result is, with what the store has then.
+fn one_told<S, X, T, B>(
+    alloc: Global,
+    store: &S,
+    request: &Request,
+    answered: &Answered<X, T, B>,
+) -> Result<Told, Problem>
+where
+    X: Filter,
+    T: Renderable<()>,
+    B: Renderable<()>,
+    S: PartialStore<X, T, B>,
+{
+    let told = request_told(alloc, request, &answered.found)?;
+    let is_there = store.contains(request.name.as_str());
+    Ok(told.only_if(is_kept_so(answered, told, is_there)))
+}
+
 /// Returns what all results are together.
 fn together<S, X, T, B>(
     alloc: Global,
@@ -104,9 +122,7 @@ where
 {
     let mut all = Told::Whole.only_if(requests.len() == answers.len());
     for (request, answered) in requests.iter().zip(answers) {
-        let told = request_told(alloc, request, &answered.found)?;
-        let is_there = store.contains(request.name.as_str());
-        all = all.and(told.only_if(is_kept_so(answered, told, is_there)));
+        all = all.and(one_told(alloc, store, request, answered)?);
     }
     Ok(all)
 }
@@ -188,8 +204,8 @@ where
     C: PartialCompiler<F, T, B> + OfSource + Drop,
     C::Store: Keeping + Drop,
 {
-    let mut store = store::<C, F, T, B>(alloc, row, language)?;
-    let requests = row.requests(alloc)?;
+    let made = store::<C, F, T, B>(alloc, row, language);
+    let (mut store, requests) = both(made, row.requests(alloc))?;
     let seen = requested_of(alloc, &mut store, requests.as_slice(), boxes);
     drop(requests);
     drop(store);

@@ -1,5 +1,5 @@
 //! The rows.
-use crate::problem::Problem;
+use crate::problem::{Problem, both};
 use crate::rows::stores::Request;
 use liquid_core::model::{Object, to_object};
 use liquid_core::partials::InMemorySource;
@@ -115,16 +115,11 @@ impl Row {
 
     /// Adds the partials to a source.
     fn add_partials(&self, alloc: Global, source: &mut InMemorySource) -> Result<(), Problem> {
-        let Some(partials) = self.json.get("partials") else {
-            return add_partial(alloc, source, "t", self.template());
-        };
-        let Some(partials) = partials.as_array() else {
-            return Err(Problem::Row);
-        };
-        for partial in partials {
-            add_partial(alloc, source, text_at(partial, 0), text_at(partial, 1))?;
+        match self.json.get("partials") {
+            None => add_partial(alloc, source, "t", self.template()),
+            Some(Json::Array(partials)) => add_each(alloc, source, partials.as_slice()),
+            Some(_) => Err(Problem::Row),
         }
-        Ok(())
     }
 
     /// Returns the partials.
@@ -141,18 +136,19 @@ impl Row {
 
     /// Returns the names that are requested from a store, each with what the partial is by itself.
     pub fn requests(&self, alloc: Global) -> Result<Vec<Request>, Problem> {
-        let Some(Json::Array(list)) = self.json.get("requests") else {
-            return Err(Problem::Row);
-        };
-        let mut requests = Vec::new(alloc);
-        match add_requests(alloc, &mut requests, list.as_slice()) {
-            Ok(()) => Ok(requests),
-            Err(problem) => {
-                drop(requests);
-                Err(problem)
-            }
+        match self.json.get("requests") {
+            Some(Json::Array(list)) => requests_of(alloc, list.as_slice()),
+            _ => Err(Problem::Row),
         }
     }
+}
+
+/// Adds the partials of a list to a source.
+fn add_each(alloc: Global, source: &mut InMemorySource, partials: &[Json]) -> Result<(), Problem> {
+    for partial in partials {
+        add_partial(alloc, source, text_at(partial, 0), text_at(partial, 1))?;
+    }
+    Ok(())
 }
 
 fn add_partial(
@@ -162,13 +158,18 @@ fn add_partial(
     text: &str,
 ) -> Result<(), Problem> {
     let name = String::from_str(alloc, name)?;
-    source.add(name, String::from_str(alloc, text)?)?;
+    let text = String::from_str(alloc, text)?;
+    source.add(name, text)?;
     Ok(())
 }
 
+fn text(alloc: Global, text: &str) -> Result<String, Problem> {
+    Ok(String::from_str(alloc, text)?)
+}
+
 fn request(alloc: Global, json: &Json) -> Result<Request, Problem> {
-    let name = String::from_str(alloc, text_at(json, 0))?;
-    let answer = String::from_str(alloc, text_at(json, 1))?;
+    let name = text(alloc, text_at(json, 0));
+    let (name, answer) = both(name, text(alloc, text_at(json, 1)))?;
     Ok(Request { name, answer })
 }
 
@@ -177,6 +178,17 @@ fn add_requests(alloc: Global, requests: &mut Vec<Request>, list: &[Json]) -> Re
         requests.push(request(alloc, json)?)?;
     }
     Ok(())
+}
+
+fn requests_of(alloc: Global, list: &[Json]) -> Result<Vec<Request>, Problem> {
+    let mut requests = Vec::new(alloc);
+    match add_requests(alloc, &mut requests, list) {
+        Ok(()) => Ok(requests),
+        Err(problem) => {
+            drop(requests);
+            Err(problem)
+        }
+    }
 }
 
 fn text_at(list: &Json, place: usize) -> &str {

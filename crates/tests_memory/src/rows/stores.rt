@@ -2,6 +2,7 @@
 use crate::built::built;
 use crate::growths::Told;
 use crate::problem::Problem;
+use crate::rows::pages::is_said;
 use crate::rows::row::Row;
 use liquid_core::model::Object;
 use liquid_core::parser::{Language, ParseBlock, ParseFilter, ParseTag};
@@ -10,7 +11,7 @@ use liquid_core::partials::{
 };
 use liquid_core::runtime::{Renderable, Runtime, Template};
 use liquid_core::{Error, Filter, PartialStore, TextSink};
-use std::alloc::Global;
+use std::alloc::{AllocError, Global};
 use std::rc::Rc;
 
 /// A compiler of partials in memory.
@@ -66,15 +67,23 @@ pub struct Request {
     pub answer: String,
 }
 
-/// Returns what was written, with the text of an error after it.
-fn text_of(alloc: Global, sink: TextSink, answer: &Result<(), Error>) -> Result<String, Problem> {
-    let Ok(mut text) = sink.into_string() else {
-        return Err(Problem::Row);
-    };
-    if let Err(error) = answer {
-        text.push_str(error.to_string(alloc)?.as_str())?;
+/// Adds the text of an error, if there is one, to another text.
+fn add_error(all: &mut String, answer: &Result<(), Error>) -> Result<(), AllocError> {
+    match answer {
+        Ok(()) => Ok(()),
+        Err(error) => write!(all, "{error}"),
     }
-    Ok(text)
+}
+
+/// Returns what was written, with the text of an error after it.
+fn text_of(sink: TextSink, answer: &Result<(), Error>) -> Result<String, Problem> {
+    match sink.into_string() {
+        Ok(mut text) => {
+            add_error(&mut text, answer)?;
+            Ok(text)
+        }
+        Err(_) => Err(Problem::Row),
+    }
 }
 
 /// Returns what a partial is over a runtime.
@@ -92,7 +101,7 @@ where
 {
     let mut sink = TextSink::new(alloc);
     let answer = page.render_to(alloc, &mut sink, runtime);
-    let text = text_of(alloc, sink, &answer);
+    let text = text_of(sink, &answer);
     drop(answer);
     text
 }
@@ -110,6 +119,16 @@ where
     text
 }
 
+/// Returns `true` if this is what a partial is by itself.
+fn is_shown<X, T, B>(alloc: Global, page: &Template<X, T, B>, text: &str) -> Result<bool, Problem>
+where
+    X: Filter,
+    T: Renderable<()>,
+    B: Renderable<()>,
+{
+    Ok(shown(alloc, page)?.as_str() == text)
+}
+
 /// Compares the result of a store for a request with the row's.
 pub fn request_told<X, T, B>(
     alloc: Global,
@@ -121,12 +140,27 @@ where
     T: Renderable<()>,
     B: Renderable<()>,
 {
-    let text = match found {
+    let wanted = request.answer.as_str();
+    let is_whole = match found {
         Err(error) if error.is_memory() => return Ok(Told::Memory),
-        Err(error) => error.to_string(alloc)?,
-        Ok(page) => shown(alloc, page)?,
+        Err(error) => is_said(alloc, error, wanted),
+        Ok(page) => is_shown(alloc, page, wanted),
     };
-    Ok(Told::Whole.only_if(text.as_str() == request.answer.as_str()))
+    Ok(Told::Whole.only_if(is_whole?))
+}
+
+/// Requests one name from a store, and compares the result with the row's.
+fn one_told<S, X, T, B>(alloc: Global, store: &mut S, request: &Request) -> Result<Told, Problem>
+where
+    X: Filter,
+    T: Renderable<()>,
+    B: Renderable<()>,
+    S: PartialStore<X, T, B>,
+{
+    let found = store.get(alloc, request.name.as_str());
+    let told = request_told(alloc, request, &found);
+    drop(found);
+    told
 }
 
 /// Compares the results of a store for all requests, one after another, with the row's.
@@ -143,10 +177,7 @@ where
 {
     let mut all = Told::Whole;
     for request in requests {
-        let found = store.get(alloc, request.name.as_str());
-        let told = request_told(alloc, request, &found);
-        drop(found);
-        all = all.and(told?);
+        all = all.and(one_told(alloc, store, request)?);
     }
     Ok(all)
 }

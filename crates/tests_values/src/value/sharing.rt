@@ -1,4 +1,5 @@
 //! Arrays and objects that values share: a write reaches the value that is written to, and no other one.
+use super::insert;
 use liquid_value::{Array, Object, SharedArray, SharedObject, Value};
 use std::alloc::{AllocError, Global};
 use std::test::Fail;
@@ -14,21 +15,20 @@ fn array(alloc: Global) -> Result<Value, AllocError> {
 /// Returns the object `{"a": 1}`, whose copies share it.
 fn object(alloc: Global) -> Result<Value, AllocError> {
     let mut members = Object::new(alloc);
-    drop(members.insert(String::from_str(alloc, "a")?, Value::scalar(1i64))?);
+    insert(alloc, &mut members, "a", Value::scalar(1i64))?;
     Ok(Value::Object(SharedObject::shared(alloc, members)?))
 }
 
 /// Writes 2 after the items, or as the member `b`.
 fn write(alloc: Global, value: &mut Value) -> Result<(), AllocError> {
     match value {
-        Value::Array(items) => SharedArray::to_mut(items)?.push(Value::scalar(2i64))?,
+        Value::Array(items) => Ok(SharedArray::to_mut(items)?.push(Value::scalar(2i64))?),
         Value::Object(members) => {
-            let name = String::from_str(alloc, "b")?;
-            drop(SharedObject::to_mut(members)?.insert(name, Value::scalar(2i64))?);
+            let members = SharedObject::to_mut(members)?;
+            insert(alloc, members, "b", Value::scalar(2i64))
         }
-        _ => {}
+        _ => Ok(()),
     }
-    Ok(())
 }
 
 /// Returns `true` if the value can be written to in place.
@@ -41,7 +41,7 @@ fn is_alone(value: &mut Value) -> bool {
 }
 
 /// Fails unless a value has this text.
-fn has_text(alloc: Global, value: &Value, text: &str) -> Result<(), Fail> {
+pub(super) fn has_text(alloc: Global, value: &Value, text: &str) -> Result<(), Fail> {
     same(value.to_kstr(alloc)?.as_str(), text)
 }
 
@@ -63,17 +63,17 @@ fn share(
 }
 
 /// Fails unless a write to a value that shares its content leaves the other value as it was.
-fn shares(alloc: Global, mut first: Value, before: &str, after: &str) -> Result<(), Fail> {
-    holds(is_alone(&mut first), "one value is alone")?;
+fn shares(alloc: Global, first: &mut Value, before: &str, after: &str) -> Result<(), Fail> {
+    holds(is_alone(first), "one value is alone")?;
     let mut second = first.clone()?;
-    share(alloc, &mut first, &mut second, before, after)
+    share(alloc, first, &mut second, before, after)
 }
 
 #[test]
 fn a_write_leaves_the_other_owner_as_it_was(rt: HostRuntime) -> Result<(), Fail> {
     let alloc = rt.alloc();
-    shares(alloc, array(alloc)?, "1", "12")?;
-    shares(alloc, object(alloc)?, "a1", "a1b2")
+    shares(alloc, &mut array(alloc)?, "1", "12")?;
+    shares(alloc, &mut object(alloc)?, "a1", "a1b2")
 }
 
 /// Returns the items of a copy of an array.
@@ -102,8 +102,7 @@ fn longer(array: &Value) -> Result<Value, Fail> {
 /// Returns the members that are taken from an object, and the member `b`.
 fn larger(alloc: Global, object: &Value) -> Result<Value, Fail> {
     let mut members = taken_object(object)?;
-    let name = String::from_str(alloc, "b")?;
-    drop(members.insert(name, Value::scalar(2i64))?);
+    insert(alloc, &mut members, "b", Value::scalar(2i64))?;
     Ok(Value::from(members))
 }
 

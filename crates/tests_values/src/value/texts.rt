@@ -78,11 +78,16 @@ const STATES: &str = r#"["truthy", 0]
 ["default empty blank", null]
 ["default empty blank", {"state": "truthy"}]"#;
 
+/// Returns `true` if these are the names of the states that a value is in.
+fn has_states(alloc: Global, value: &Value, wanted: &str) -> Result<bool, Fail> {
+    let mut names = String::new(alloc);
+    add_states(&mut names, value)?;
+    Ok(names.as_str() == wanted)
+}
+
 fn is_in_states(alloc: Global, row: &Line) -> Result<bool, Fail> {
     let wanted = row.text(0)?;
-    let mut names = String::new(alloc);
-    add_states(&mut names, &value_at(alloc, row, 1)?)?;
-    Ok(names.as_str() == wanted)
+    has_states(alloc, &value_at(alloc, row, 1)?, wanted)
 }
 
 #[test]

@@ -1,5 +1,6 @@
 //! What values contain, what they are made from, and walks over objects.
-use super::{value_at, value_in};
+use super::sharing::has_text;
+use super::{insert, value_at, value_in};
 use liquid_scalar::Scalar;
 use liquid_value::map::{IntoIter, Iter, Keys, Values};
 use liquid_value::steps::{
@@ -8,7 +9,7 @@ use liquid_value::steps::{
 use liquid_value::{Array, Object, State, Value, ValueCow};
 use std::alloc::{AllocError, Global};
 use std::test::Fail;
-use tests_lines::{Line, holds, rows_hold, same};
+use tests_lines::{Line, holds, rows_hold};
 
 // What a value is, and the value.
 const PARTS: &str = r#"["scalar", 1]
@@ -69,36 +70,35 @@ fn values_give_what_they_hold(rt: HostRuntime) -> Result<(), Fail> {
 }
 
 /// Puts 2 after the items of an array.
-fn push(array: &mut Value) -> Result<(), AllocError> {
-    if let Some(items) = array.as_array_mut() {
-        items.to_mut()?.push(Value::scalar(2i64))?;
+fn push_two(array: &mut Value) -> Result<(), AllocError> {
+    match array.as_array_mut() {
+        Some(items) => Ok(items.to_mut()?.push(Value::scalar(2i64))?),
+        None => Ok(()),
     }
-    Ok(())
 }
 
 #[test]
 fn arrays_change_in_place(rt: HostRuntime) -> Result<(), Fail> {
     let alloc = rt.alloc();
     let mut array = value_in(alloc, "[1]")?;
-    push(&mut array)?;
-    same(array.to_kstr(alloc)?.as_str(), "12")
+    push_two(&mut array)?;
+    has_text(alloc, &array, "12")
 }
 
 /// Sets the member `b` of an object to 2.
-fn insert(alloc: Global, object: &mut Value) -> Result<(), AllocError> {
-    if let Some(members) = object.as_object_mut() {
-        let name = String::from_str(alloc, "b")?;
-        drop(members.to_mut()?.insert(name, Value::scalar(2i64))?);
+fn insert_two(alloc: Global, object: &mut Value) -> Result<(), AllocError> {
+    match object.as_object_mut() {
+        Some(members) => insert(alloc, members.to_mut()?, "b", Value::scalar(2i64)),
+        None => Ok(()),
     }
-    Ok(())
 }
 
 #[test]
 fn objects_change_in_place(rt: HostRuntime) -> Result<(), Fail> {
     let alloc = rt.alloc();
     let mut object = value_in(alloc, "{\"a\": 1}")?;
-    insert(alloc, &mut object)?;
-    same(object.to_kstr(alloc)?.as_str(), "a1b2")
+    insert_two(alloc, &mut object)?;
+    has_text(alloc, &object, "a1b2")
 }
 
 fn has_a_clone(alloc: Global, row: &Line) -> Result<bool, Fail> {
@@ -163,63 +163,58 @@ fn named(alloc: Global) -> Result<Object, Fail> {
     }
 }
 
-/// Returns `true` if a value is what a JSON text means.
-fn is_json(alloc: Global, value: Value, text: &str) -> Result<bool, Fail> {
-    Ok(value_in(alloc, text)? == value)
+/// Fails unless a value is what a JSON text means.
+fn is_json(alloc: Global, value: &Value, text: &str) -> Result<(), Fail> {
+    holds(value_in(alloc, text)? == *value, text)
 }
 
-fn is_owned(alloc: Global, cow: ValueCow<'static>, text: &str) -> Result<bool, Fail> {
-    is_json(alloc, cow.into_owned()?, text)
+/// Fails unless a borrowed value that is owned is what a JSON text means.
+fn is_owned(alloc: Global, cow: ValueCow<'static>, text: &str) -> Result<(), Fail> {
+    is_json(alloc, &cow.into_owned()?, text)
+}
+
+/// Fails unless values without members are kept.
+fn check_plain(alloc: Global) -> Result<(), Fail> {
+    is_json(alloc, &Value::default(), "null")?;
+    is_json(alloc, &Value::from(State::Blank), BLANK)?;
+    is_json(alloc, &Value::from(Scalar::Integer(1)), "1")
+}
+
+/// Fails unless an array that is built of items has them.
+fn check_items(alloc: Global) -> Result<(), Fail> {
+    let ones = items(alloc)?.into_iter();
+    is_json(alloc, &Value::array(alloc, ones)?, ITEMS)
 }
 
 #[test]
 fn conversions_keep_the_value(rt: HostRuntime) -> Result<(), Fail> {
     let alloc = rt.alloc();
-    holds(is_json(alloc, Value::default(), "null")?, "nil")?;
-    holds(
-        is_json(alloc, Value::from(items(alloc)?), ITEMS)?,
-        "an array",
-    )?;
-    holds(
-        is_json(alloc, Value::from(named(alloc)?), NAMED)?,
-        "an object",
-    )?;
-    holds(is_json(alloc, Value::from(State::Blank), BLANK)?, "a state")?;
-    holds(
-        is_json(alloc, Value::from(Scalar::Integer(1)), "1")?,
-        "a scalar",
-    )?;
-    let ones = items(alloc)?.into_iter();
-    holds(is_json(alloc, Value::array(alloc, ones)?, ITEMS)?, "items")
+    check_plain(alloc)?;
+    check_items(alloc)?;
+    is_json(alloc, &Value::from(items(alloc)?), ITEMS)?;
+    is_json(alloc, &Value::from(named(alloc)?), NAMED)
+}
+
+/// Fails unless borrowed values without members are kept.
+fn check_plain_cows(alloc: Global) -> Result<(), Fail> {
+    is_owned(alloc, ValueCow::default(), "null")?;
+    is_owned(alloc, ValueCow::from(Value::Nil), "null")?;
+    is_owned(alloc, ValueCow::from(State::Blank), BLANK)?;
+    is_owned(alloc, ValueCow::from(Scalar::Integer(1)), "1")
 }
 
 #[test]
 fn conversions_keep_the_borrowed_value(rt: HostRuntime) -> Result<(), Fail> {
     let alloc = rt.alloc();
-    holds(is_owned(alloc, ValueCow::default(), "null")?, "nothing")?;
-    holds(is_owned(alloc, ValueCow::from(Value::Nil), "null")?, "nil")?;
-    holds(
-        is_owned(alloc, ValueCow::from(items(alloc)?), ITEMS)?,
-        "an array",
-    )?;
-    holds(
-        is_owned(alloc, ValueCow::from(named(alloc)?), NAMED)?,
-        "an object",
-    )?;
-    holds(
-        is_owned(alloc, ValueCow::from(State::Blank), BLANK)?,
-        "a state",
-    )?;
-    holds(
-        is_owned(alloc, ValueCow::from(Scalar::Integer(1)), "1")?,
-        "a scalar",
-    )
+    check_plain_cows(alloc)?;
+    is_owned(alloc, ValueCow::from(items(alloc)?), ITEMS)?;
+    is_owned(alloc, ValueCow::from(named(alloc)?), NAMED)
 }
 
 fn two_entries(alloc: Global) -> Result<Object, AllocError> {
     let mut object = Object::new(alloc);
-    drop(object.insert(String::from_str(alloc, "b")?, Value::scalar(2i64))?);
-    drop(object.insert(String::from_str(alloc, "a")?, Value::scalar(1i64))?);
+    insert(alloc, &mut object, "b", Value::scalar(2i64))?;
+    insert(alloc, &mut object, "a", Value::scalar(1i64))?;
     Ok(object)
 }
 
@@ -246,7 +241,7 @@ fn objects_are_maps(rt: HostRuntime) -> Result<(), Fail> {
     let mut object = two_entries(alloc)?;
     has_two_entries(&mut object)?;
     set_slot(alloc, &mut object)?;
-    same(Value::from(object).to_kstr(alloc)?.as_str(), "b2c4")
+    has_text(alloc, &Value::from(object), "b2c4")
 }
 
 // How many are left before a step, the name and the text of the entry that it takes, and how many are left then.
@@ -289,7 +284,8 @@ fn walks_over_names_say_how_many_are_left_and_end(rt: HostRuntime) -> Result<(),
     names_are_walked(two_entries(rt.alloc())?.keys())
 }
 
-fn has_text(alloc: Global, value: Option<&Value>, text: &str) -> Result<bool, AllocError> {
+/// Returns `true` if a value has this text, or if there is no value and no text.
+fn is_text(alloc: Global, value: Option<&Value>, text: &str) -> Result<bool, AllocError> {
     match value {
         Some(value) => Ok(value.to_kstr(alloc)?.as_str() == text),
         None => Ok(text.is_empty()),
@@ -300,7 +296,7 @@ fn has_text(alloc: Global, value: Option<&Value>, text: &str) -> Result<bool, Al
 fn values_are_walked(alloc: Global, mut values: Values<'_>) -> Result<(), Fail> {
     for (left, _, text, then) in &STEPS {
         let (before, value, after) = step_over_values(&mut values);
-        let is_text = has_text(alloc, value, text)?;
+        let is_text = is_text(alloc, value, text)?;
         let is_step = (before == *left) & is_text & (after == *then);
         holds(is_step, "a step over values")?;
     }
@@ -312,18 +308,24 @@ fn walks_over_values_say_how_many_are_left_and_end(rt: HostRuntime) -> Result<()
     values_are_walked(rt.alloc(), two_entries(rt.alloc())?.values())
 }
 
-fn has_name(entry: Option<(String, Value)>, name: Option<&str>) -> bool {
+/// Returns `true` if an entry has this name, or if there is no entry and no name.
+fn has_name(entry: &Option<(String, Value)>, name: Option<&str>) -> bool {
     match (entry, name) {
         (Some((key, _)), Some(name)) => key.as_str() == name,
         (entry, name) => entry.is_none() && name.is_none(),
     }
 }
 
+/// Takes a step over owned entries, and returns `true` if it is this one.
+fn takes_step(owned: &mut IntoIter, left: usize, name: Option<&str>, then: usize) -> bool {
+    let (before, entry, after) = step_over_owned_entries(owned);
+    (before == left) & has_name(&entry, name) & (after == then)
+}
+
 /// Fails unless a walk over owned entries takes the steps.
 fn owned_entries_are_walked(owned: &mut IntoIter) -> Result<(), Fail> {
     for (left, name, _, then) in &STEPS {
-        let (before, entry, after) = step_over_owned_entries(owned);
-        let is_step = (before == *left) & has_name(entry, *name) & (after == *then);
+        let is_step = takes_step(owned, *left, *name, *then);
         holds(is_step, "a step over owned entries")?;
     }
     Ok(())

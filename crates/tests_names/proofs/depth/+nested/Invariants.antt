@@ -1,4 +1,0 @@
-use Rattle.tests_names.proofs.depth.+nested.Given as goal
-
-abbrev pub decreases-nested : goal.decreases-nested
-decreases-nested g l = l.frames

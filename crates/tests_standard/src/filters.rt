@@ -1,0 +1,7 @@
+//! The standard filters, each called as a function of values, and what they read of a value.
+mod answers;
+mod lists;
+mod numbers;
+mod order;
+mod texts;
+mod values;

@@ -1,0 +1,111 @@
+//! Rows of the filters on texts.
+use super::answers;
+use liquid_error::Error;
+use liquid_value::{Value, ValueCow};
+use std::alloc::Global;
+use std::test::Fail;
+use std_texts::{
+    append, base64_decode, base64_encode, capitalize, downcase, escape, escape_once, lstrip,
+    newline_to_br, prepend, remove, remove_first, remove_last, replace, replace_first,
+    replace_last, rstrip, slice, split, strip, strip_html, strip_newlines, truncate, truncatewords,
+    upcase, url_decode, url_encode,
+};
+use tests_lines::{Line, rows_hold};
+
+/// A filter, its input, its arguments, and the source of what it returns.
+const ROWS: &str = r#"["append", "  abc  ", ["o"], "\"  abc  o\""]
+["append", "a", [], "liquid: Unexpected arguments\n"]
+["prepend", "b", ["a"], "\"ab\""]
+["upcase", "straße", [], "\"STRASSE\""]
+["downcase", "ΑΣ ΣΑΣ", [], "\"ασ σασ\""]
+["capitalize", "ΑΣ ΣΑΣ", [], "\"Ασ σασ\""]
+["strip", " é ", [], "\"é\""]
+["lstrip", "\n\ta b ", [], "\"a b \""]
+["rstrip", "\r\r\n", [], "\"\""]
+["strip_newlines", "\ra\r\n\nb", [], "\"\rab\""]
+["newline_to_br", "a\r\nb", [], "\"a<br />\nb\""]
+["escape", "&a;'", [], "\"&amp;a;&#39;\""]
+["escape_once", "&é;&a;&#39&#39;<", [], "\"&amp;é;&a;&amp;#39&#39;&lt;\""]
+["strip_html", "<script>if (a<b) {}</script>!", [], "\"!\""]
+["strip_html", "a<br/>b<br>c", [], "\"abc\""]
+["replace", "abab", ["", "-"], "\"-a-b-a-b-\""]
+["replace", "aaa", ["aa", "x"], "\"xa\""]
+["replace_first", "nihon 日本 go", ["go"], "\"nihon 日本 \""]
+["replace_last", "aaa", ["aa", "x"], "\"ax\""]
+["remove", "mid…dle", ["dl"], "\"mid…e\""]
+["remove_first", "🎉 party", [" pa"], "\"🎉rty\""]
+["remove_last", "WORD", ["OR"], "\"WD\""]
+["split", " a  b ", [" "], "[a, b, ]"]
+["split", ",a,,b,,", [","], "[, a, , b, ]"]
+["split", "aé", [""], "[a, é, ]"]
+["truncate", "xxxxxxxxxx", [" 5 "], "\"xx...\""]
+["truncate", "ééé", ["-1", "…"], "\"…\""]
+["truncate", "a", ["x"], "liquid: Whole number expected\n  with:\n    found=\"x\"\n"]
+["truncatewords", " a  b c", ["2"], "\"a b...\""]
+["truncatewords", " a  b", ["2"], "\" a  b\""]
+["truncatewords", "a b ", ["2", "&"], "\"a b&\""]
+["slice", "日b ababZ%", ["4", "50"], "\"babZ%\""]
+["slice", "abc", ["-2"], "\"b\""]
+["slice", "abc", ["-4"], "\"\""]
+["url_encode", "\n,xa*+ ~", [], "\"%0A%2Cxa%2A%2B+~\""]
+["url_decode", "%c3%a9+%&", [], "\"é %&\""]
+["url_decode", "%c3", [], "liquid: Decoded bytes are no text\n"]
+["base64_encode", "\r\n", [], "\"DQo=\""]
+["base64_decode", "YWI=", [], "\"ab\""]
+["base64_decode", "YWJ=", [], "liquid: Invalid base64\n"]"#;
+
+/// Returns the result of a filter without arguments.
+fn answered_alone(alloc: Global, filter: &str, input: &Value) -> Result<Value, Error> {
+    match filter {
+        "upcase" => upcase(alloc, input),
+        "downcase" => downcase(alloc, input),
+        "capitalize" => capitalize(alloc, input),
+        "strip" => strip(alloc, input),
+        "lstrip" => lstrip(alloc, input),
+        "rstrip" => rstrip(alloc, input),
+        "strip_newlines" => strip_newlines(alloc, input),
+        "newline_to_br" => newline_to_br(alloc, input),
+        "escape" => escape(alloc, input),
+        "escape_once" => escape_once(alloc, input),
+        "strip_html" => strip_html(alloc, input),
+        "url_encode" => url_encode(alloc, input),
+        "url_decode" => url_decode(alloc, input),
+        "base64_encode" => base64_encode(alloc, input),
+        "base64_decode" => base64_decode(alloc, input),
+        _ => Ok(Value::Nil),
+    }
+}
+
+/// Returns the result of a filter.
+fn answered(
+    alloc: Global,
+    filter: &str,
+    input: &Value,
+    arguments: &[ValueCow<'_>],
+) -> Result<Value, Error> {
+    match filter {
+        "append" => append(alloc, input, arguments),
+        "prepend" => prepend(alloc, input, arguments),
+        "replace" => replace(alloc, input, arguments),
+        "replace_first" => replace_first(alloc, input, arguments),
+        "replace_last" => replace_last(alloc, input, arguments),
+        "remove" => remove(alloc, input, arguments),
+        "remove_first" => remove_first(alloc, input, arguments),
+        "remove_last" => remove_last(alloc, input, arguments),
+        "split" => split(alloc, input, arguments),
+        "truncate" => truncate(alloc, input, arguments),
+        "truncatewords" => truncatewords(alloc, input, arguments),
+        "slice" => slice(alloc, input, arguments),
+        other => answered_alone(alloc, other, input),
+    }
+}
+
+/// Returns `true` if a filter returns what its row says.
+fn is_answered(alloc: Global, row: &Line) -> Result<bool, Fail> {
+    answers::is_answered(alloc, row, answered)
+}
+
+#[test]
+fn texts_are_answered(rt: HostRuntime) -> Result<(), Fail> {
+    rows_hold(rt.alloc(), ROWS, is_answered)
+}
