@@ -174,7 +174,7 @@ fn made(alloc: Global) -> Result<String, AllocError> {
     String::from_str(alloc, "b")
 }
 
-/// Fails unless a new error has the old one as its cause, or stands in its place, where its text is at hand.
+/// Fails unless a new error has the old one as its cause, or replaces it, if its text is given.
 fn check_texts(alloc: Global) -> Result<(), Fail> {
     let new = "liquid: b\n";
     shows(alloc, refused(alloc).chain(alloc, "b"), new, "liquid: a\n")?;
@@ -190,7 +190,7 @@ fn check_texts(alloc: Global) -> Result<(), Fail> {
     shows(alloc, starved.replace(alloc, "b"), memory, "")
 }
 
-/// Fails unless a new error has the old one as its cause, or stands in its place, where its text is made.
+/// Fails unless a new error has the old one as its cause, or replaces it, if a call makes its text.
 fn check_made_texts(alloc: Global) -> Result<(), Fail> {
     let new = "liquid: b\n";
     let text = || made(alloc);
@@ -259,7 +259,7 @@ fn check_traces(alloc: Global) -> Result<(), Fail> {
     shows(alloc, later, traced, "")
 }
 
-/// Returns `true` if an answer that is no error stays as it is, and its trace is not made.
+/// Returns `true` if a result without an error is unchanged, and the text of its trace is never made.
 fn is_left_alone(alloc: Global) -> bool {
     let mut calls = 0u8;
     let fine: liquid_error::Result<u8> = Ok(7);

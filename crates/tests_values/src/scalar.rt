@@ -336,7 +336,7 @@ fn is_moment(_alloc: Global, row: &Line) -> Result<bool, Fail> {
     Ok(has_date_time(ScalarCow::new(row.text(0)?), &moment, &moment) == row.truth(1)?)
 }
 
-/// Fails unless a number is no date.
+/// Fails if a number is a date.
 fn number_is_no_date() -> Result<(), Fail> {
     let day = Date::from_ymd(2016, 6, 13)?;
     let moment = DateTime::from_ymd(2016, 6, 13)?;

@@ -109,7 +109,7 @@ fn object_of(alloc: Global, members: &Map<String, Json>) -> Result<Object, Fail>
     Ok(object)
 }
 
-/// Returns the value of a JSON that is no object of one member with a meaning of its own.
+/// Returns the value of a JSON value, except an object of one member that has a meaning of its own.
 fn nested(alloc: Global, given: &Json) -> Result<Value, Fail> {
     match given {
         Json::Array(items) => Ok(Value::from(array_of(alloc, items)?)),

@@ -284,7 +284,7 @@ fn walks_over_names_say_how_many_are_left_and_end(rt: HostRuntime) -> Result<(),
     names_are_walked(two_entries(rt.alloc())?.keys())
 }
 
-/// Returns `true` if a value has this text, or if there is no value and no text.
+/// Returns `true` if a value has this text, or if there is neither.
 fn is_text(alloc: Global, value: Option<&Value>, text: &str) -> Result<bool, AllocError> {
     match value {
         Some(value) => Ok(value.to_kstr(alloc)?.as_str() == text),
@@ -308,7 +308,7 @@ fn walks_over_values_say_how_many_are_left_and_end(rt: HostRuntime) -> Result<()
     values_are_walked(rt.alloc(), two_entries(rt.alloc())?.values())
 }
 
-/// Returns `true` if an entry has this name, or if there is no entry and no name.
+/// Returns `true` if an entry has this name, or if there is neither.
 fn has_name(entry: &Option<(String, Value)>, name: Option<&str>) -> bool {
     match (entry, name) {
         (Some((key, _)), Some(name)) => key.as_str() == name,
