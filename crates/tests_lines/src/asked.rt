@@ -1,9 +1,10 @@
 //! What a test checks in what it found. A test that checks by these calls, and has no assert of its own, is proved in a
-//! fraction of the time.
-ghost use Rattle.std.specs.Prelude.{◌≡◌, ◌↔◌, IsOk, true};
+//! fraction of the time, and so is a function that returns a truth value in place of a result.
+ghost use Rattle.std.specs.Prelude.{◌≡◌, ◌↔◌, IsOk, IfOk, IfErr, string_bytes, true, false};
 
 use crate::line::Line;
-use std::alloc::Global;
+use crate::row::Row;
+use std::alloc::{AllocError, Global};
 use std::test::Fail;
 
 /// Fails for a text that isn't the one wanted, and shows both.
@@ -24,8 +25,19 @@ pub fn holds(is_so: bool, what: &str) -> Result<(), Fail>
     if is_so { Ok(()) } else { Err(Fail::new(what)) }
 }
 
-/// Fails for the first row of a table that does not pass the test, and shows its line.
-pub fn rows_hold<F: Fn(Global, &Line) -> Result<bool, Fail>>(
+/// Returns `true` if a text was made and is the one wanted, and `false` if memory ran out.
+pub fn is_text(found: Result<String, AllocError>, wanted: &str) -> bool
+    ensures made { IfOk found (λ text. (result ≡ true) ↔ (string_bytes text ≡ wanted.now)) }
+    ensures failed { IfErr found (λ _. result ≡ false) }
+{
+    match found {
+        Ok(text) => text.as_str() == wanted,
+        Err(_) => false,
+    }
+}
+
+/// Fails for the first row of a table that does not pass the test or is not JSON, and shows its line.
+pub fn rows_hold<F: Fn(Global, &Line) -> bool>(
     alloc: Global,
     rows: &str,
     holds: F,
@@ -33,8 +45,31 @@ pub fn rows_hold<F: Fn(Global, &Line) -> Result<bool, Fail>>(
     requires { F.IsAlwaysCallable holds }
 {
     for line in rows.lines() {
-        let row = Line::of(alloc, line)?;
-        if !holds(alloc, &row)? {
+        let is_so = match Line::of(alloc, line) {
+            Some(row) => holds(alloc, &row),
+            None => false,
+        };
+        if !is_so {
+            return Err(Fail::new(format_args!("this row doesn't hold: {line}")));
+        }
+    }
+    Ok(())
+}
+
+/// Fails for the first row of a table of templates that does not pass the test or is no such row, and shows its line.
+pub fn templates_hold<F: Fn(Global, &Row) -> bool>(
+    alloc: Global,
+    rows: &str,
+    holds: F,
+) -> Result<(), Fail>
+    requires { F.IsAlwaysCallable holds }
+{
+    for line in rows.lines() {
+        let is_so = match Row::of(alloc, line) {
+            Some(row) => holds(alloc, &row),
+            None => false,
+        };
+        if !is_so {
             return Err(Fail::new(format_args!("this row doesn't hold: {line}")));
         }
     }

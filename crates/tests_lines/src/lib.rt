@@ -6,6 +6,6 @@ mod asked;
 mod line;
 mod row;
 
-pub use asked::{holds, rows_hold, same};
+pub use asked::{holds, is_text, rows_hold, same, templates_hold};
 pub use line::Line;
 pub use row::Row;

@@ -1,12 +1,11 @@
 //! A row of a table of templates.
-ghost use Rattle.std.specs.Prelude.{◌≡◌, Some, IfOk, option_map, option_and_then, unwrap_or, [], true, false};
+ghost use Rattle.std.specs.Prelude.{◌≡◌, Some, IfSome, option_map, option_and_then, unwrap_or, [], true, false};
 ghost use Rattle.serde_json.specs.Find.{get, as_str};
 ghost use Rattle.serde_json.specs.Read.{read};
 ghost use Rattle.serde_json.specs.View.{view};
 
 use serde_json::Value as Json;
 use std::alloc::Global;
-use std::test::Fail;
 
 /// A template and its result, an object of JSON: `template`, what it sees and the partials that it may render, what is
 /// `written`, the text of its `error`, empty if it has none, and what is left of the names. The result of the row with
@@ -18,20 +17,19 @@ pub struct Row {
 }
 
 impl Row {
-    /// Reads the row of a line. Fails for a line that is not JSON, and for a row without a template or without what it
-    /// writes.
-    pub fn of(alloc: Global, line: &str) -> Result<Row, Fail>
-        ensures read { IfOk result (λ row. read line.now ≡ Some (view row.json)) }
-        ensures strict { IfOk result (λ row. row.is_lenient ≡ false) }
+    /// Returns the row of a line, or `None` for a line that is not JSON, for a row without a template or without what it
+    /// writes, or if memory runs out.
+    pub fn of(alloc: Global, line: &str) -> Option<Row>
+        ensures read { IfSome result (λ row. read line.now ≡ Some (view row.json)) }
+        ensures strict { IfSome result (λ row. row.is_lenient ≡ false) }
     {
-        let json = Json::from_str(alloc, line)?;
-        if json.get("template").is_none() || json.get("written").is_none() {
-            return Err(Fail::from("a row has no template, or nothing that it writes"));
+        match Json::from_str(alloc, line) {
+            Ok(json) if json.get("template").is_some() && json.get("written").is_some() => Some(Row {
+                json,
+                is_lenient: false,
+            }),
+            _ => None,
         }
-        Ok(Row {
-            json,
-            is_lenient: false,
-        })
     }
 
     /// Returns the same row with lenient names.

@@ -9,8 +9,11 @@ const ROWS: &str = r#"[1, 1]
 [2, 3]
 [4, 4]"#;
 
-fn is_pair(row: &Line) -> Result<bool, Fail> {
-    Ok(row.number(0)? == row.number(1)?)
+fn is_pair(row: &Line) -> bool {
+    match (row.number(0), row.number(1)) {
+        (Some(first), Some(second)) => first == second,
+        _ => false,
+    }
 }
 
 fn main(rt: HostRuntime) -> Result<(), Fail> {
