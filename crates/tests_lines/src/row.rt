@@ -24,10 +24,12 @@ impl Row {
         ensures strict { IfSome result (λ row. row.is_lenient ≡ false) }
     {
         match Json::from_str(alloc, line) {
-            Ok(json) if json.get("template").is_some() && json.get("written").is_some() => Some(Row {
-                json,
-                is_lenient: false,
-            }),
+            Ok(json) if json.get("template").is_some() && json.get("written").is_some() => Some(
+                Row {
+                    json,
+                    is_lenient: false,
+                },
+            ),
             _ => None,
         }
     }

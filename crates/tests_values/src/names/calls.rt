@@ -1,127 +1,145 @@
 //! Each call of scopes, over both forms.
 ghost use Rattle.std.specs.Prelude.{◌≡◌};
 
-use crate::names::framed::{Base, Body, add_line, framed, is_chained, is_flat, nothing_known};
+use crate::names::framed::{Base, Body, framed, holds_over_both};
 use crate::names::made;
-use crate::names::values::numbers;
+use crate::names::values::{numbers, text};
 use liquid_error::Error;
-use liquid_runtime::{Frame, Interrupt, Runtime, Scopes};
+use liquid_runtime::{Frame, Interrupt, Runtime, RuntimeBuilder, Scopes};
 use liquid_scalar::ScalarCow;
 use liquid_scopes::FlatScopes;
 use liquid_value::Value;
 use std::alloc::{AllocError, Global};
 use std::collections::BTreeSet;
 use std::test::Fail;
-use tests_lines::holds;
+use tests_lines::{holds, is_text};
 
-/// Writes down what the calls return, under a stack frame with a name.
+/// The calls, under a stack frame with a name.
 struct Calls;
 
 impl Body for Calls {
-    fn run<S: Scopes>(&self, alloc: Global, scopes: &mut S, log: &mut String) -> Result<(), Error> {
-        let page = Some(String::from_str(alloc, "page")?);
-        let frame = Frame::Stack(numbers(alloc, &[("a", 1)])?, page);
-        framed(alloc, scopes, frame, &UnderPage, log)
+    fn holds<S: Scopes>(&self, alloc: Global, scopes: &mut S) -> bool {
+        framed(alloc, scopes, page(alloc).ok(), &UnderPage)
     }
+}
+
+/// Returns a stack frame of the template `page`.
+fn page(alloc: Global) -> Result<Frame, AllocError> {
+    let name = text(alloc, "page")?;
+    Ok(Frame::Stack(numbers(alloc, &[("a", 1)])?, Some(name)))
 }
 
 struct UnderPage;
 
 impl Body for UnderPage {
-    fn run<S: Scopes>(&self, alloc: Global, scopes: &mut S, log: &mut String) -> Result<(), Error> {
-        note_place(alloc, scopes, log)?;
-        note_known(alloc, scopes, log)?;
-        sets(alloc, scopes, log)?;
-        note_roots(alloc, scopes, log)?;
-        add_line(log, refusal(alloc, scopes))?;
-        interrupts(scopes, log)
+    fn holds<S: Scopes>(&self, alloc: Global, scopes: &mut S) -> bool {
+        is_in_page(scopes)
+            && sets(alloc, scopes)
+            && lists_names(alloc, scopes)
+            && refuses_path(alloc, scopes)
+            && interrupts(scopes)
     }
 }
 
-/// Writes down the template's name, how many frames there are, and the depth.
-fn note_place<S: Scopes>(alloc: Global, scopes: &S, log: &mut String) -> Result<(), AllocError> {
-    let name = scopes.name().unwrap_or("none");
-    let frames = scopes.frames();
-    let depth = scopes.depth();
-    add_line(log, format!(in alloc; "{name} {frames} {depth}"))
+/// Returns `true` if scopes are in the frame `page`, which has `a`.
+fn is_in_page<S: Scopes>(scopes: &S) -> bool {
+    scopes.name() == Some("page")
+        && scopes.frames() == 1
+        && scopes.depth() == 32
+        && scopes.try_get_name("a").is_some()
+        && !scopes.seals("a")
 }
 
-/// Writes down what is known of `a`.
-fn note_known<S: Scopes>(alloc: Global, scopes: &S, log: &mut String) -> Result<(), AllocError> {
-    let known = scopes.try_get_name("a").is_some();
-    let sealed = scopes.seals("a");
-    add_line(log, format!(in alloc; " {known} {sealed}"))
+/// Returns `true` if the names are `a`, `g` and `i`.
+fn are_a_g_and_i(names: &BTreeSet<String>) -> bool {
+    names.len() == 3 && names.contains("a") && names.contains("g") && names.contains("i")
 }
 
-/// Writes down names.
-fn note_names(alloc: Global, names: &BTreeSet<String>, log: &mut String) -> Result<(), AllocError> {
-    for name in names.iter() {
-        add_line(log, format!(in alloc; " {name}"))?;
+/// Returns `true` if the names that are seen are `a`, `g` and `i`.
+fn lists_names<S: Scopes>(alloc: Global, scopes: &S) -> bool {
+    match scopes.roots(alloc) {
+        Ok(names) => are_a_g_and_i(&names),
+        Err(_) => false,
     }
-    Ok(())
 }
 
-/// Writes down the names that are seen.
-fn note_roots<S: Scopes>(alloc: Global, scopes: &S, log: &mut String) -> Result<(), AllocError> {
-    note_names(alloc, &scopes.roots(alloc)?, log)
-}
+const REFUSAL: &str =
+    "liquid: Unknown index\n  with:\n    variable=a\n    requested index=x\n    available indexes=\n";
 
-/// Returns the error of a path, or nothing if it leads to a value.
-fn refusal<S: Scopes>(alloc: Global, scopes: &S) -> Result<String, AllocError> {
+/// Returns `true` if a path into a number has the error of its index.
+fn refuses_path<S: Scopes>(alloc: Global, scopes: &S) -> bool {
     match made::get(alloc, scopes, &[ScalarCow::from("a"), ScalarCow::from("x")]) {
-        Ok(_) => Ok(String::new(alloc)),
-        Err(error) => error.to_string(alloc),
+        Ok(_) => false,
+        Err(error) => is_text(error.to_string(alloc), REFUSAL),
     }
 }
 
-/// Sets a global, and returns whether it had a value before.
-fn had_global<S: Scopes>(alloc: Global, scopes: &mut S) -> Result<bool, Error>
+/// Sets a global to a number, and returns its old value.
+pub(crate) fn set_global<S: Scopes>(
+    alloc: Global,
+    scopes: &mut S,
+    name: &str,
+    number: i64,
+) -> Result<Option<Value>, Error>
     ensures { S.restores scopes.new ≡ S.restores scopes.old }
 {
-    let name = String::from_str(alloc, "g")?;
-    Ok(made::set_global(scopes, name, Value::scalar(2i64))?.is_some())
+    made::set_global(scopes, text(alloc, name)?, Value::scalar(number))
 }
 
-/// Sets an index variable, and returns whether it had a value before.
-fn had_index<S: Scopes>(alloc: Global, scopes: &mut S, number: i64) -> Result<bool, Error>
+/// Sets a global to a number, and returns `true` if it had no value before.
+pub(crate) fn is_new_global<S: Scopes>(
+    alloc: Global,
+    scopes: &mut S,
+    name: &str,
+    number: i64,
+) -> bool
     ensures { S.restores scopes.new ≡ S.restores scopes.old }
 {
-    let name = String::from_str(alloc, "i")?;
-    Ok(made::set_index(scopes, name, Value::scalar(number))?.is_some())
-}
-
-/// Sets a global and an index variable, and writes down the old values and the new index variable.
-fn sets<S: Scopes>(alloc: Global, scopes: &mut S, log: &mut String) -> Result<(), Error>
-    ensures { S.restores scopes.new ≡ S.restores scopes.old }
-{
-    let old = had_global(alloc, scopes)?;
-    let first = had_index(alloc, scopes, 3)?;
-    let second = had_index(alloc, scopes, 4)?;
-    let now = made::get_index(scopes, "i").is_some();
-    add_line(log, format!(in alloc; " {old} {first} {second} {now}"))?;
-    Ok(())
-}
-
-/// Sets an interrupt, and writes down whether one was set before and is set now.
-fn interrupts<S: Scopes>(scopes: &mut S, log: &mut String) -> Result<(), Error>
-    ensures { S.restores scopes.new ≡ S.restores scopes.old }
-{
-    if !scopes.registers().interrupt.interrupted() {
-        log.push_str("first")?;
+    match set_global(alloc, scopes, name, number) {
+        Ok(old) => old.is_none(),
+        Err(_) => false,
     }
+}
+
+/// Sets the index variable `i` to a number, and returns its old value.
+fn set_index<S: Scopes>(alloc: Global, scopes: &mut S, number: i64) -> Result<Option<Value>, Error>
+    ensures { S.restores scopes.new ≡ S.restores scopes.old }
+{
+    made::set_index(scopes, text(alloc, "i")?, Value::scalar(number))
+}
+
+/// Sets the index variable `i` to a number, and returns `true` if it had a value before exactly if it should.
+fn has_set_index<S: Scopes>(alloc: Global, scopes: &mut S, number: i64, is_known: bool) -> bool
+    ensures { S.restores scopes.new ≡ S.restores scopes.old }
+{
+    match set_index(alloc, scopes, number) {
+        Ok(old) => old.is_some() == is_known,
+        Err(_) => false,
+    }
+}
+
+/// Returns `true` if a global and an index variable are new, and the index variable then has a value.
+fn sets<S: Scopes>(alloc: Global, scopes: &mut S) -> bool
+    ensures { S.restores scopes.new ≡ S.restores scopes.old }
+{
+    is_new_global(alloc, scopes, "g", 2)
+        && has_set_index(alloc, scopes, 3, false)
+        && has_set_index(alloc, scopes, 4, true)
+        && made::get_index(scopes, "i").is_some()
+}
+
+/// Sets an interrupt, and returns `true` if none was set before and one is set now.
+fn interrupts<S: Scopes>(scopes: &mut S) -> bool
+    ensures { S.restores scopes.new ≡ S.restores scopes.old }
+{
+    let was_set = scopes.registers().interrupt.interrupted();
     scopes.registers_mut().interrupt.set(Interrupt::Break);
-    if scopes.registers().interrupt.interrupted() {
-        log.push_str(" then")?;
-    }
-    Ok(())
+    !was_set && scopes.registers().interrupt.interrupted()
 }
-
-const ANSWERS: &str = "page 1 32 true false false false true true a g i\
-    liquid: Unknown index\n  with:\n    variable=a\n    requested index=x\n    available indexes=\nfirst then";
 
 /// Returns `true` if scopes over a borrowed runtime have no partials.
 fn borrowed_has_no_partials(alloc: Global) -> bool {
-    let mut base = nothing_known(alloc);
+    let mut base: Base = RuntimeBuilder::new(alloc).build();
     let mut scopes: FlatScopes<&mut Base> = FlatScopes::new(alloc, &mut base);
     let has_none = scopes.partials().is_none();
     let _base = scopes.into_base();
@@ -130,14 +148,9 @@ fn borrowed_has_no_partials(alloc: Global) -> bool {
 
 #[test]
 fn each_call_answers_alike(rt: HostRuntime) -> Result<(), Fail> {
-    let alloc = rt.alloc();
     holds(
-        is_chained(alloc, nothing_known(alloc), &Calls, ANSWERS)?,
-        "chained scopes answer as told",
-    )?;
-    holds(
-        is_flat(alloc, nothing_known(alloc), &Calls, ANSWERS)?,
-        "flat scopes answer as told",
+        holds_over_both(rt.alloc(), &[], false, &Calls),
+        "scopes of both forms return what they should",
     )
 }
 

@@ -1,127 +1,131 @@
 //! A thousand frames, and how many frame lookups a name takes under them.
 ghost use Rattle.std.specs.Prelude.{◌≡◌};
 
-use crate::names::framed::{Base, add_line, sandboxed, shown, stack};
-use crate::names::values::numbers;
-use liquid_error::Error;
-use liquid_runtime::{Runtime, RuntimeBuilder, Scopes};
+use crate::names::framed::{Base, based, sandboxed, shown, stack};
+use liquid_runtime::{Runtime, Scopes};
 use liquid_scalar::ScalarCow;
 use liquid_scopes::{FlatScopes, Looks};
 use std::alloc::{AllocError, Global};
 use std::test::Fail;
-use tests_lines::same;
+use tests_lines::{holds, is_text};
 
 /// Scopes that count their frame lookups.
 trait Seeks: Scopes {
-    /// Writes down what a name leads to, and how many frame lookups that took: ` NAME=VALUE/LOOKS`.
-    fn note_looks(&self, alloc: Global, name: &'static str, log: &mut String) -> Result<(), Error>;
+    /// Returns `true` if a name leads to a value with this text (or to nothing, if the text is `none`) by so many frame
+    /// lookups.
+    fn is_found(&self, alloc: Global, name: &'static str, text: &str, count: u64) -> bool;
 }
 
 impl<R: Runtime> Seeks for FlatScopes<R> {
-    fn note_looks(&self, alloc: Global, name: &'static str, log: &mut String) -> Result<(), Error> {
+    fn is_found(&self, alloc: Global, name: &'static str, text: &str, count: u64) -> bool {
         let mut looks = Looks::new();
-        let shown = shown(
-            alloc,
-            self.seek(alloc, &[ScalarCow::from(name)], &mut looks)?,
-        )?;
-        Ok(add_line(log, format!(in alloc; " {name}={shown}/{}", looks.count()))?)
+        let is_so = match self.seek(alloc, &[ScalarCow::from(name)], &mut looks) {
+            Ok(found) => is_text(shown(alloc, found), text),
+            Err(_) => false,
+        };
+        is_so && looks.count() == count
     }
 }
 
-/// Writes down lookups under that many more frames, each of which gives `deep` its own number.
+/// Returns `true` if lookups find what they should under that many more frames, each of which gives `deep` its own number.
 #[tactic(auto, using(crate::proofs::Pushed::pushed))]
-fn nested<S: Seeks>(
-    alloc: Global,
-    scopes: &mut S,
-    frames: u32,
-    log: &mut String,
-) -> Result<(), Error>
+fn nested<S: Seeks>(alloc: Global, scopes: &mut S, frames: u32) -> bool
     ensures { S.restores scopes.new ≡ S.restores scopes.old }
 {
     if frames == 0 {
-        return innermost(alloc, scopes, log);
+        return innermost(alloc, scopes);
     }
-    scopes.push(stack(alloc, &[("deep", i64::from(frames))])?)?;
-    let answer = nested(alloc, scopes, frames - 1, log);
-    scopes.pop();
-    answer
+    let Some(frame) = stack(alloc, &[("deep", i64::from(frames))]) else {
+        return false;
+    };
+    match scopes.push(frame) {
+        Ok(()) => {
+            let is_so = nested(alloc, scopes, frames - 1);
+            scopes.pop();
+            is_so
+        }
+        Err(_) => false,
+    }
 }
 
-/// Writes down lookups, and then those under a sandboxed frame.
+/// Returns `true` if lookups find what they should, and then under a sandboxed frame.
 #[tactic(auto, using(crate::proofs::Pushed::pushed))]
-fn innermost<S: Seeks>(alloc: Global, scopes: &mut S, log: &mut String) -> Result<(), Error>
+fn innermost<S: Seeks>(alloc: Global, scopes: &mut S) -> bool
     ensures { S.restores scopes.new ≡ S.restores scopes.old }
 {
-    note_all(alloc, scopes, log)?;
-    scopes.push(sandboxed(alloc, &[("own", 6)])?)?;
-    let answer = in_sandbox(alloc, scopes, log);
-    scopes.pop();
-    answer
+    let is_found = finds(alloc, scopes, ("1", 1), ("5", 2), ("none", 2));
+    let Some(frame) = sandboxed(alloc, &[("own", 6)]) else {
+        return false;
+    };
+    match scopes.push(frame) {
+        Ok(()) => {
+            let is_so = is_found && in_sandbox(alloc, scopes);
+            scopes.pop();
+            is_so
+        }
+        Err(_) => false,
+    }
 }
 
-/// Writes down lookups, and then those under another frame.
+/// Returns `true` if lookups find what they should, and then under another frame.
 #[tactic(auto, using(crate::proofs::Pushed::pushed))]
-fn in_sandbox<S: Seeks>(alloc: Global, scopes: &mut S, log: &mut String) -> Result<(), Error>
+fn in_sandbox<S: Seeks>(alloc: Global, scopes: &mut S) -> bool
     ensures { S.restores scopes.new ≡ S.restores scopes.old }
 {
-    note_all(alloc, scopes, log)?;
-    scopes.push(stack(alloc, &[("other", 7)])?)?;
-    let answer = note_all(alloc, scopes, log);
-    scopes.pop();
-    answer
-}
-
-/// Writes down lookups of three names.
-fn note_all<S: Seeks>(alloc: Global, scopes: &S, log: &mut String) -> Result<(), Error> {
-    for name in ["deep", "base", "own"] {
-        scopes.note_looks(alloc, name, log)?;
+    let is_found = finds(alloc, scopes, ("none", 1), ("none", 1), ("6", 1));
+    let Some(frame) = stack(alloc, &[("other", 7)]) else {
+        return false;
+    };
+    match scopes.push(frame) {
+        Ok(()) => {
+            let is_so = is_found && finds(alloc, scopes, ("none", 1), ("none", 1), ("6", 2));
+            scopes.pop();
+            is_so
+        }
+        Err(_) => false,
     }
-    Ok(())
 }
 
-/// Writes down lookups under that many frames over a base.
-fn note_over<S: Seeks>(
+/// Returns `true` if `deep`, `base` and `own` lead to these texts by so many frame lookups.
+fn finds<S: Seeks>(
     alloc: Global,
-    base: S::Base,
-    frames: u32,
-    log: &mut String,
-) -> Result<(), Error>
+    scopes: &S,
+    deep: (&str, u64),
+    base: (&str, u64),
+    own: (&str, u64),
+) -> bool {
+    scopes.is_found(alloc, "deep", deep.0, deep.1)
+        && scopes.is_found(alloc, "base", base.0, base.1)
+        && scopes.is_found(alloc, "own", own.0, own.1)
+}
+
+/// Returns `true` if lookups find what they should under that many frames over a base.
+fn finds_over<S: Seeks>(alloc: Global, base: S::Base, frames: u32) -> bool
 where
     S::Base: Drop,
 {
     let mut scopes = S::new(alloc, base);
-    let answer = nested(alloc, &mut scopes, frames, log);
+    let is_so = nested(alloc, &mut scopes, frames);
     let _base = scopes.into_base();
-    answer
+    is_so
 }
 
-/// Returns a runtime whose globals give `base` the number 5.
-fn based(alloc: Global) -> Result<Base, AllocError> {
-    Ok(
-        RuntimeBuilder::new(alloc)
-            .set_globals(numbers(alloc, &[("base", 5)])?)
-            .build(),
-    )
-}
-
-/// Returns the lookups under that many frames over a base.
-fn noted(alloc: Global, base: Base, frames: u32) -> Result<String, Error> {
-    let mut log = String::new(alloc);
-    note_over::<FlatScopes<Base>>(alloc, base, frames, &mut log)?;
-    Ok(log)
-}
-
-/// Fails unless the lookups under that many frames are these.
-fn takes(alloc: Global, frames: u32, looks: &str) -> Result<(), Fail> {
-    same(noted(alloc, based(alloc)?, frames)?.as_str(), looks)
+/// Returns `true` if the lookups under that many frames are few, over a runtime whose globals give `base` the number 5.
+fn takes_few_looks(alloc: Global, base: Result<Base, AllocError>, frames: u32) -> bool {
+    match base {
+        Ok(base) => finds_over::<FlatScopes<Base>>(alloc, base, frames),
+        Err(_) => false,
+    }
 }
 
 #[test]
 fn a_name_takes_at_most_two_looks_under_a_thousand_frames(rt: HostRuntime) -> Result<(), Fail> {
-    let looks = " deep=1/1 base=5/2 own=none/2 deep=none/1 base=none/1 own=6/1 \
-        deep=none/1 base=none/1 own=6/2";
+    let alloc = rt.alloc();
     for frames in [1, 1000] {
-        takes(rt.alloc(), frames, looks)?;
+        holds(
+            takes_few_looks(alloc, based(alloc, &[("base", 5)], false), frames),
+            "a name takes at most two lookups",
+        )?;
     }
     Ok(())
 }

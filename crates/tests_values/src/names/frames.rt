@@ -1,10 +1,7 @@
 //! Frames that hide one another, over both forms of scopes.
-use crate::names::framed::{
-    Body, framed, is_chained, is_flat, note, nothing_known, sandboxed, stack,
-};
-use liquid_error::Error;
+use crate::names::calls::is_new_global;
+use crate::names::framed::{Body, framed, holds_over_both, sandboxed, shows, stack};
 use liquid_runtime::{Frame, Scopes};
-use liquid_value::Value;
 use std::alloc::Global;
 use std::test::Fail;
 use tests_lines::holds;
@@ -13,67 +10,51 @@ use tests_lines::holds;
 struct Frames;
 
 impl Body for Frames {
-    fn run<S: Scopes>(&self, alloc: Global, scopes: &mut S, log: &mut String) -> Result<(), Error> {
-        framed(alloc, scopes, stack(alloc, &[("a", 1)])?, &BelowStack, log)
+    fn holds<S: Scopes>(&self, alloc: Global, scopes: &mut S) -> bool {
+        framed(alloc, scopes, stack(alloc, &[("a", 1)]), &BelowStack)
     }
 }
 
 struct BelowStack;
 
 impl Body for BelowStack {
-    fn run<S: Scopes>(&self, alloc: Global, scopes: &mut S, log: &mut String) -> Result<(), Error> {
-        framed(
-            alloc,
-            scopes,
-            sandboxed(alloc, &[("b", 2)])?,
-            &BelowSandbox,
-            log,
-        )?;
-        note(alloc, scopes, "a", log)?;
-        framed(alloc, scopes, Frame::Global, &BelowGlobal, log)?;
-        note(alloc, scopes, "a", log)
+    fn holds<S: Scopes>(&self, alloc: Global, scopes: &mut S) -> bool {
+        framed(alloc, scopes, sandboxed(alloc, &[("b", 2)]), &BelowSandbox)
+            && shows(alloc, scopes, "a", "1")
+            && framed(alloc, scopes, Some(Frame::Global), &BelowGlobal)
+            && shows(alloc, scopes, "a", "1")
     }
 }
 
 struct BelowSandbox;
 
 impl Body for BelowSandbox {
-    fn run<S: Scopes>(&self, alloc: Global, scopes: &mut S, log: &mut String) -> Result<(), Error> {
-        framed(alloc, scopes, stack(alloc, &[("b", 3)])?, &Innermost, log)?;
-        note(alloc, scopes, "b", log)
+    fn holds<S: Scopes>(&self, alloc: Global, scopes: &mut S) -> bool {
+        framed(alloc, scopes, stack(alloc, &[("b", 3)]), &Innermost)
+            && shows(alloc, scopes, "b", "2")
     }
 }
 
 struct Innermost;
 
 impl Body for Innermost {
-    fn run<S: Scopes>(&self, alloc: Global, scopes: &mut S, log: &mut String) -> Result<(), Error> {
-        note(alloc, scopes, "a", log)?;
-        note(alloc, scopes, "b", log)
+    fn holds<S: Scopes>(&self, alloc: Global, scopes: &mut S) -> bool {
+        shows(alloc, scopes, "a", "none") && shows(alloc, scopes, "b", "3")
     }
 }
 
 struct BelowGlobal;
 
 impl Body for BelowGlobal {
-    fn run<S: Scopes>(&self, alloc: Global, scopes: &mut S, log: &mut String) -> Result<(), Error> {
-        scopes.set_global(String::from_str(alloc, "a")?, Value::scalar(4i64))?;
-        note(alloc, scopes, "a", log)
+    fn holds<S: Scopes>(&self, alloc: Global, scopes: &mut S) -> bool {
+        is_new_global(alloc, scopes, "a", 4) && shows(alloc, scopes, "a", "4")
     }
 }
 
-/// What scopes of both forms show.
-const SHOWN: &str = " a=none b=3 b=2 a=1 a=4 a=1";
-
 #[test]
 fn a_name_that_was_hidden_is_seen_again(rt: HostRuntime) -> Result<(), Fail> {
-    let alloc = rt.alloc();
     holds(
-        is_chained(alloc, nothing_known(alloc), &Frames, SHOWN)?,
-        "chained scopes show as told",
-    )?;
-    holds(
-        is_flat(alloc, nothing_known(alloc), &Frames, SHOWN)?,
-        "flat scopes show as told",
+        holds_over_both(rt.alloc(), &[], false, &Frames),
+        "scopes of both forms show the names",
     )
 }

@@ -1,21 +1,22 @@
 //! What paths lead to under frames, in a strict runtime and in a lenient one, over both forms of scopes.
 ghost use Rattle.std.specs.Prelude.{◌≡◌};
 
-use crate::names::framed::{Base, Body, is_chained, is_flat};
+use crate::names::calls::set_global;
+use crate::names::framed::{Body, holds_over_both};
 use crate::names::made;
 use crate::names::paths::path_of;
-use crate::names::values::{answer_text, numbers, text};
-use liquid_error::Error;
+use crate::names::values::answer_text;
 use liquid_json::to_object;
 use liquid_paths::find;
-use liquid_runtime::{Frame, Runtime, RuntimeBuilder, Scopes};
+use liquid_runtime::{Frame, Runtime, Scopes};
 use liquid_scalar::ScalarCow;
-use liquid_value::Value;
+use liquid_value::{Object, Value};
 use liquid_views::ValueView;
 use serde_json::Value as Json;
-use std::alloc::{AllocError, Global};
+use std::alloc::Global;
+use std::collections::BTreeSet;
 use std::test::Fail;
-use tests_lines::{Line, rows_hold};
+use tests_lines::{Line, is_text, rows_hold};
 
 /// Frames over a runtime that gives `base` the number 5, a name that is set to 4 under them, if there is one, a path,
 /// and what `get` returns for it in a strict runtime: a value's text or that of the error.
@@ -96,37 +97,52 @@ const NAMES: &str = r#"[[], "", ["base"]]
 [[["isolated", {"b": 2}], ["stack", {"c": 1}]], "b", ["b", "c"]]
 [[["stack", {"a": 1}], ["isolated", {"b": 2}]], "a", ["a", "b"]]"#;
 
-/// Returns the frame that a row describes.
-fn frame_of(alloc: Global, told: &Json) -> Result<Frame, Error> {
-    match (told.get(0).and_then(Json::as_str), told.get(1)) {
-        (Some("none"), _) => Ok(Frame::None),
-        (Some("global"), _) => Ok(Frame::Global),
-        (Some("stack"), Some(names)) => Ok(Frame::Stack(to_object(alloc, names)?, None)),
-        (Some("sandboxed"), Some(names)) => Ok(Frame::Sandboxed(to_object(alloc, names)?, None)),
-        (Some("isolated"), Some(names)) => Ok(Frame::Isolated(to_object(alloc, names)?, None)),
-        _ => Err(Error::with_msg(alloc, "a row tells no frame")),
+/// Returns a frame with these names, or `None` if a row calls it by another word.
+fn named_frame(word: &str, names: Object) -> Option<Frame> {
+    match word {
+        "stack" => Some(Frame::Stack(names, None)),
+        "sandboxed" => Some(Frame::Sandboxed(names, None)),
+        "isolated" => Some(Frame::Isolated(names, None)),
+        _ => None,
     }
 }
 
-/// Runs a body under these frames, the outermost first.
+/// Returns the frame with names that a row describes.
+fn frame_with(alloc: Global, word: &str, names: &Json) -> Option<Frame> {
+    match to_object(alloc, names) {
+        Ok(names) => named_frame(word, names),
+        Err(_) => None,
+    }
+}
+
+/// Returns the frame that a row describes.
+fn frame_of(alloc: Global, row: &Json) -> Option<Frame> {
+    match (row.get(0).and_then(Json::as_str), row.get(1)) {
+        (Some("none"), _) => Some(Frame::None),
+        (Some("global"), _) => Some(Frame::Global),
+        (Some(word), Some(names)) => frame_with(alloc, word, names),
+        _ => None,
+    }
+}
+
+/// Returns `true` if a body holds under these frames, the outermost first.
 #[tactic(auto, using(crate::proofs::Pushed::pushed))]
-fn under<S: Scopes, B: Body>(
-    alloc: Global,
-    scopes: &mut S,
-    frames: &[Json],
-    body: &B,
-    log: &mut String,
-) -> Result<(), Error>
+fn holds_under<S: Scopes, B: Body>(alloc: Global, scopes: &mut S, frames: &[Json], body: &B) -> bool
     ensures { S.restores scopes.new ≡ S.restores scopes.old }
 {
-    match frames.split_first() {
-        None => body.run(alloc, scopes, log),
-        Some((first, rest)) => {
-            scopes.push(frame_of(alloc, first)?)?;
-            let answer = under(alloc, scopes, rest, body, log);
+    let Some((first, rest)) = frames.split_first() else {
+        return body.holds(alloc, scopes);
+    };
+    let Some(frame) = frame_of(alloc, first) else {
+        return false;
+    };
+    match scopes.push(frame) {
+        Ok(()) => {
+            let is_so = holds_under(alloc, scopes, rest, body);
             scopes.pop();
-            answer
+            is_so
         }
+        Err(_) => false,
     }
 }
 
@@ -138,23 +154,19 @@ struct WithFrames<'r, B> {
 }
 
 impl<B: Body> Body for WithFrames<'_, B> {
-    fn run<S: Scopes>(&self, alloc: Global, scopes: &mut S, log: &mut String) -> Result<(), Error> {
-        under(alloc, scopes, self.frames, self.body, log)
+    fn holds<S: Scopes>(&self, alloc: Global, scopes: &mut S) -> bool {
+        holds_under(alloc, scopes, self.frames, self.body)
     }
 }
 
-/// Sets a name to 4, unless it is empty.
-fn set<S: Scopes>(alloc: Global, scopes: &mut S, name: &str) -> Result<(), Error>
+/// Sets a name to 4, unless it is empty, and returns `true` if that is done.
+fn is_set<S: Scopes>(alloc: Global, scopes: &mut S, name: &str) -> bool
     ensures { S.restores scopes.new ≡ S.restores scopes.old }
 {
-    if name.is_empty() {
-        return Ok(());
-    }
-    made::set_global(scopes, text(alloc, name)?, Value::scalar(4i64))?;
-    Ok(())
+    name.is_empty() || set_global(alloc, scopes, name, 4).is_ok()
 }
 
-/// Looks up a path, and writes it down if the result is not the expected one.
+/// A path that is looked up, and its result in a strict runtime.
 #[derive(Drop)]
 struct Asks<'r> {
     set: &'r str,
@@ -163,28 +175,12 @@ struct Asks<'r> {
 }
 
 impl Body for Asks<'_> {
-    fn run<S: Scopes>(&self, alloc: Global, scopes: &mut S, log: &mut String) -> Result<(), Error> {
-        set(alloc, scopes, self.set)?;
-        note_other(alloc, scopes, self, log)
+    fn holds<S: Scopes>(&self, alloc: Global, scopes: &mut S) -> bool {
+        is_set(alloc, scopes, self.set)
+            && has_result(alloc, scopes, self)
+            && is_tried(alloc, scopes, self.path, !is_refused(self))
+            && is_found(alloc, scopes, self.path, !is_refused(self))
     }
-}
-
-/// Writes down what is looked up, if the result is not the expected one.
-fn note_other<S: Scopes>(
-    alloc: Global,
-    scopes: &S,
-    asks: &Asks<'_>,
-    log: &mut String,
-) -> Result<(), Error> {
-    let answer = if is_refused(asks) && scopes.is_lenient() {
-        is_nil(alloc, scopes, asks)?
-    } else {
-        is_told(alloc, scopes, asks)?
-    };
-    if !answer || !is_tried_alike(alloc, scopes, asks)? {
-        log.push_str(asks.strict)?;
-    }
-    Ok(())
 }
 
 /// Returns `true` if the path is an error in a strict runtime.
@@ -192,48 +188,65 @@ fn is_refused(asks: &Asks<'_>) -> bool {
     asks.strict.starts_with("liquid: Unknown ")
 }
 
+/// Returns `true` if the path has the expected result.
+fn has_result<S: Scopes>(alloc: Global, scopes: &S, asks: &Asks<'_>) -> bool {
+    if is_refused(asks) && scopes.is_lenient() {
+        is_nil(alloc, scopes, asks.path)
+    } else {
+        is_text(
+            answer_text(alloc, made::get(alloc, scopes, asks.path)),
+            asks.strict,
+        )
+    }
+}
+
 /// Returns `true` if the path is nil.
-fn is_nil<S: Scopes>(alloc: Global, scopes: &S, asks: &Asks<'_>) -> Result<bool, AllocError> {
-    match made::get(alloc, scopes, asks.path) {
-        Ok(value) => Ok(value.is_nil()),
-        Err(_) => Ok(false),
+fn is_nil<S: Scopes>(alloc: Global, scopes: &S, path: &[ScalarCow<'_>]) -> bool {
+    match made::get(alloc, scopes, path) {
+        Ok(value) => value.is_nil(),
+        Err(_) => false,
     }
 }
 
-/// Returns `true` if the path has the same result as in a strict runtime.
-fn is_told<S: Scopes>(alloc: Global, scopes: &S, asks: &Asks<'_>) -> Result<bool, AllocError> {
-    Ok(answer_text(alloc, made::get(alloc, scopes, asks.path))?.as_str() == asks.strict)
+/// Returns `true` if trying the path gives a value exactly if it should.
+fn is_tried<S: Scopes>(alloc: Global, scopes: &S, path: &[ScalarCow<'_>], is_so: bool) -> bool {
+    match made::try_get(alloc, scopes, path) {
+        Ok(found) => found.is_some() == is_so,
+        Err(_) => false,
+    }
 }
 
-/// Returns `true` if trying the path gives a value if a strict runtime finds one, and so does finding the rest of it
-/// after the name's value.
-fn is_tried_alike<S: Scopes>(
-    alloc: Global,
-    scopes: &S,
-    asks: &Asks<'_>,
-) -> Result<bool, AllocError> {
-    let is_tried = made::try_get(alloc, scopes, asks.path)?.is_some();
-    Ok(is_tried != is_refused(asks) && is_tried == is_found(alloc, scopes, asks.path)?)
-}
-
-/// Returns `true` if the path's name has a value, in which the rest of the path is found.
-fn is_found<S: Scopes>(
-    alloc: Global,
-    scopes: &S,
-    path: &[ScalarCow<'_>],
-) -> Result<bool, AllocError> {
+/// Returns `true` if the path's name has a value, in which the rest of the path is found, exactly if it should.
+fn is_found<S: Scopes>(alloc: Global, scopes: &S, path: &[ScalarCow<'_>], is_so: bool) -> bool {
     match path.split_first() {
-        None => Ok(false),
-        Some((first, rest)) => {
-            let name = first.to_kstr(alloc)?;
-            let value = scopes.try_get_name(name.as_str());
-            drop(name);
-            Ok(value.is_some_and(|value| find(alloc, value, rest).is_ok()))
-        }
+        Some((first, rest)) => is_found_under(alloc, scopes, first, rest, is_so),
+        None => !is_so,
     }
 }
 
-/// Lists the names seen, and writes down if they are not the expected ones.
+/// Returns `true` if a name has a value, in which the rest of a path is found, exactly if it should.
+fn is_found_under<S: Scopes>(
+    alloc: Global,
+    scopes: &S,
+    name: &ScalarCow<'_>,
+    rest: &[ScalarCow<'_>],
+    is_so: bool,
+) -> bool {
+    match name.to_kstr(alloc) {
+        Ok(name) => leads_on(alloc, scopes.try_get_name(name.as_str()), rest) == is_so,
+        Err(_) => false,
+    }
+}
+
+/// Returns `true` if there is a value, in which the rest of a path is found.
+fn leads_on(alloc: Global, value: Option<&Value>, rest: &[ScalarCow<'_>]) -> bool {
+    match value {
+        Some(value) => find(alloc, value, rest).is_ok(),
+        None => false,
+    }
+}
+
+/// The names that are seen.
 #[derive(Drop)]
 struct Lists<'r> {
     set: &'r str,
@@ -241,90 +254,81 @@ struct Lists<'r> {
 }
 
 impl Body for Lists<'_> {
-    fn run<S: Scopes>(&self, alloc: Global, scopes: &mut S, log: &mut String) -> Result<(), Error> {
-        set(alloc, scopes, self.set)?;
-        note_others(alloc, scopes, self.names, log)
+    fn holds<S: Scopes>(&self, alloc: Global, scopes: &mut S) -> bool {
+        is_set(alloc, scopes, self.set) && sees_only(alloc, scopes, self.names)
     }
 }
 
-/// Writes down that the names seen are others than these.
-fn note_others<S: Scopes>(
-    alloc: Global,
-    scopes: &S,
-    names: &[Json],
-    log: &mut String,
-) -> Result<(), Error> {
-    let roots = scopes.roots(alloc)?;
-    let is_same = roots.len() == names.len()
-        && names.iter().all(|name| name.as_str().is_some_and(|name| roots.contains(name)));
-    drop(roots);
-    if !is_same {
-        log.push_str("other names")?;
+/// Returns `true` if the names that are seen are these.
+fn sees_only<S: Scopes>(alloc: Global, scopes: &S, names: &[Json]) -> bool {
+    match scopes.roots(alloc) {
+        Ok(roots) => are_names(&roots, names),
+        Err(_) => false,
     }
-    Ok(())
 }
 
-/// Returns a runtime whose globals give `base` the number 5.
-fn based(alloc: Global, lenient: bool) -> Result<Base, AllocError> {
-    Ok(
-        RuntimeBuilder::new(alloc)
-            .set_globals(numbers(alloc, &[("base", 5)])?)
-            .set_lenient(lenient)
-            .build(),
-    )
+/// Returns `true` if names are those of a row.
+fn are_names(roots: &BTreeSet<String>, names: &[Json]) -> bool {
+    roots.len() == names.len()
+        && names.iter().all(|name| name.as_str().is_some_and(|name| roots.contains(name)))
 }
 
-/// Returns `true` if a body writes nothing down under these frames, over scopes of both forms.
-fn notes_nothing<B: Body>(
-    alloc: Global,
-    lenient: bool,
-    frames: &[Json],
-    body: &B,
-) -> Result<bool, Error> {
+/// Returns `true` if a body holds under these frames, over scopes of both forms, in a strict and in a lenient runtime.
+fn holds_in_both<B: Body>(alloc: Global, frames: &[Json], body: &B) -> bool {
     let framed = WithFrames { frames, body };
-    let is_nothing = is_chained(alloc, based(alloc, lenient)?, &framed, "")?;
-    Ok(is_flat(alloc, based(alloc, lenient)?, &framed, "")? && is_nothing)
+    holds_over_both(alloc, &[("base", 5)], false, &framed)
+        && holds_over_both(alloc, &[("base", 5)], true, &framed)
 }
 
-/// Returns `true` if the path of a row has the expected result.
-fn is_asked(alloc: Global, lenient: bool, row: &Line) -> Result<bool, Fail> {
-    let (frames, set, strict) = (row.list(0)?.as_slice(), row.text(1)?, row.text(3)?);
-    let path = path_of(alloc, row.list(2)?)?;
-    let asks = Asks {
-        set,
-        path: path.as_slice(),
-        strict,
-    };
-    let is_asked = notes_nothing(alloc, lenient, frames, &asks);
-    drop(path);
-    Ok(is_asked?)
+/// Returns `true` if the path of these indexes has the result of a row.
+fn is_answered(
+    alloc: Global,
+    frames: &[Json],
+    set: &str,
+    indexes: &Vec<Json>,
+    strict: &str,
+) -> bool {
+    match path_of(alloc, indexes) {
+        Some(path) => holds_in_both(
+            alloc,
+            frames,
+            &Asks {
+                set,
+                path: path.as_slice(),
+                strict,
+            },
+        ),
+        None => false,
+    }
 }
 
-/// Returns `true` if the names seen are those of a row.
-fn listed(alloc: Global, lenient: bool, row: &Line) -> Result<bool, Fail> {
-    let lists = Lists {
-        set: row.text(1)?,
-        names: row.list(2)?.as_slice(),
-    };
-    Ok(notes_nothing(alloc, lenient, row.list(0)?.as_slice(), &lists)?)
-}
-
-/// Returns `true` if the path of a row has the expected result, in a strict runtime and in a lenient one.
-fn is_answered(alloc: Global, row: &Line) -> Result<bool, Fail> {
-    Ok(is_asked(alloc, false, row)? && is_asked(alloc, true, row)?)
+/// Returns `true` if the path of a row has the row's result.
+fn row_is_answered(alloc: Global, row: &Line) -> bool {
+    match (row.list(0), row.text(1), row.list(2), row.text(3)) {
+        (Some(frames), Some(set), Some(indexes), Some(strict)) => {
+            is_answered(alloc, frames.as_slice(), set, indexes, strict)
+        }
+        _ => false,
+    }
 }
 
 #[test]
 fn a_path_without_a_value_is_nil_in_a_lenient_runtime(rt: HostRuntime) -> Result<(), Fail> {
-    rows_hold(rt.alloc(), ROWS, is_answered)
+    rows_hold(rt.alloc(), ROWS, row_is_answered)
 }
 
-/// Returns `true` if the names seen are those of a row, in a strict runtime and in a lenient one.
-fn is_listed(alloc: Global, row: &Line) -> Result<bool, Fail> {
-    Ok(listed(alloc, false, row)? && listed(alloc, true, row)?)
+/// Returns `true` if the names seen are those of a row.
+fn row_is_listed(alloc: Global, row: &Line) -> bool {
+    match (row.list(0), row.text(1), row.list(2)) {
+        (Some(frames), Some(set), Some(names)) => {
+            let names = names.as_slice();
+            holds_in_both(alloc, frames.as_slice(), &Lists { set, names })
+        }
+        _ => false,
+    }
 }
 
 #[test]
 fn a_lenient_runtime_has_the_same_names(rt: HostRuntime) -> Result<(), Fail> {
-    rows_hold(rt.alloc(), NAMES, is_listed)
+    rows_hold(rt.alloc(), NAMES, row_is_listed)
 }

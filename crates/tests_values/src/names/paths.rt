@@ -8,7 +8,7 @@ use liquid_views::ArrayView;
 use serde_json::Value as Json;
 use std::alloc::{AllocError, Global};
 use std::test::Fail;
-use tests_lines::{Line, holds, rows_hold};
+use tests_lines::{Line, holds, is_text, rows_hold};
 
 /// The values that paths lead into.
 const VALUES: &str =
@@ -39,75 +39,71 @@ const PATHS: &str = r#"[["list", 2], "4"]
 [["plain", "c", "size"], "1"]"#;
 
 /// Returns an index of a path.
-fn index_of(member: &Json) -> Result<ScalarCow<'_>, Fail> {
+fn index_of(member: &Json) -> Option<ScalarCow<'_>> {
     match (member.as_str(), member.as_i64()) {
-        (Some(word), _) => Ok(ScalarCow::from(word)),
-        (None, Some(place)) => Ok(ScalarCow::from(place)),
-        (None, None) => Err(Fail::from("an index is no text and no whole number")),
+        (Some(word), _) => Some(ScalarCow::from(word)),
+        (None, Some(place)) => Some(ScalarCow::from(place)),
+        (None, None) => None,
     }
 }
 
-/// Puts indexes after those of a path.
-fn push_all<'j>(path: &mut Vec<ScalarCow<'j>>, indexes: &'j Vec<Json>) -> Result<(), Fail> {
+/// Puts an index after those of a path, and returns `true` if there is one and memory for it.
+fn push<'j>(path: &mut Vec<ScalarCow<'j>>, member: &'j Json) -> bool {
+    match index_of(member) {
+        Some(index) => path.push(index).is_ok(),
+        None => false,
+    }
+}
+
+/// Puts indexes after those of a path, and returns `true` if there are such indexes and memory for them.
+fn push_all<'j>(path: &mut Vec<ScalarCow<'j>>, indexes: &'j Vec<Json>) -> bool {
     for member in indexes {
-        path.push(index_of(member)?)?;
+        if !push(path, member) {
+            return false;
+        }
     }
-    Ok(())
+    true
 }
 
-/// Returns the path of these indexes.
-pub(crate) fn path_of(alloc: Global, indexes: &Vec<Json>) -> Result<Vec<ScalarCow<'_>>, Fail> {
+/// Returns the path of these indexes, if they are indexes and there is memory.
+pub(crate) fn path_of(alloc: Global, indexes: &Vec<Json>) -> Option<Vec<ScalarCow<'_>>> {
     let mut path = Vec::new(alloc);
-    push_all(&mut path, indexes)?;
-    Ok(path)
+    if push_all(&mut path, indexes) {
+        Some(path)
+    } else {
+        None
+    }
 }
 
-/// Returns `true` if a path leads to the answer, which is a value's text or that of the error.
-fn leads_to(
-    alloc: Global,
-    value: &Value,
-    path: &[ScalarCow<'_>],
-    answer: &str,
-) -> Result<bool, AllocError> {
-    Ok(answer_text(alloc, find(alloc, value, path))?.as_str() == answer)
+/// Returns `true` if trying a path gives a value exactly if finding it does.
+fn is_tried_alike(alloc: Global, value: &Value, path: &[ScalarCow<'_>]) -> bool {
+    match try_find(alloc, value, path) {
+        Ok(found) => found.is_some() == find(alloc, value, path).is_ok(),
+        Err(_) => false,
+    }
 }
 
-/// Returns `true` if trying a path gives a value if finding it does.
-fn is_tried_alike(
-    alloc: Global,
-    value: &Value,
-    path: &[ScalarCow<'_>],
-) -> Result<bool, AllocError> {
-    let is_tried = try_find(alloc, value, path)?.is_some();
-    Ok(is_tried == find(alloc, value, path).is_ok())
-}
-
-/// Returns `true` if a path of these indexes leads to the answer, and to a value exactly if it is tried to one.
-fn is_answered(
-    alloc: Global,
-    value: &Value,
-    path: &[ScalarCow<'_>],
-    answer: &str,
-) -> Result<bool, AllocError> {
-    Ok(leads_to(alloc, value, path, answer)? && is_tried_alike(alloc, value, path)?)
+/// Returns `true` if a path of these indexes leads to the answer, which is a value's text or that of the error, and to a
+/// value exactly if it is tried to one.
+fn is_answered(alloc: Global, value: &Value, path: &[ScalarCow<'_>], answer: &str) -> bool {
+    is_text(answer_text(alloc, find(alloc, value, path)), answer)
+        && is_tried_alike(alloc, value, path)
 }
 
 /// Returns `true` if the path of these indexes leads to the answer, tried or not.
-fn answer_holds(
-    alloc: Global,
-    value: &Value,
-    indexes: &Vec<Json>,
-    answer: &str,
-) -> Result<bool, Fail> {
-    let path = path_of(alloc, indexes)?;
-    let holds = is_answered(alloc, value, path.as_slice(), answer);
-    drop(path);
-    Ok(holds?)
+fn leads_to(alloc: Global, value: &Value, indexes: &Vec<Json>, answer: &str) -> bool {
+    match path_of(alloc, indexes) {
+        Some(path) => is_answered(alloc, value, path.as_slice(), answer),
+        None => false,
+    }
 }
 
-/// Returns `true` if the path of a row leads to what the row says, tried or not.
-fn row_holds(alloc: Global, value: &Value, row: &Line) -> Result<bool, Fail> {
-    answer_holds(alloc, value, row.list(0)?, row.text(1)?)
+/// Returns `true` if the path at a place of a row leads to the answer at the next place.
+fn row_leads_to(alloc: Global, value: &Value, row: &Line, place: usize) -> bool {
+    match (row.list(place), row.text(place.wrapping_add(1))) {
+        (Some(indexes), Some(answer)) => leads_to(alloc, value, indexes, answer),
+        _ => false,
+    }
 }
 
 /// Values, a path into each, and the text of its error.
@@ -124,21 +120,42 @@ const AFTER: &str = r#"[["a", "d"], 1, "2"]
 /// Returns `true` if a text is the result of the rest of a path after its first indexes.
 fn leads_on_to(
     alloc: Global,
-    front: usize,
+    front: i64,
     value: &Value,
     path: &[ScalarCow<'_>],
     answer: &str,
-) -> Result<bool, AllocError> {
-    Ok(answer_text(alloc, find_after(alloc, front, value, path))?.as_str() == answer)
+) -> bool {
+    match usize::try_from(front) {
+        Ok(front) => is_text(
+            answer_text(alloc, find_after(alloc, front, value, path)),
+            answer,
+        ),
+        Err(_) => false,
+    }
+}
+
+/// Returns `true` if the rest of the path of these indexes leads to the answer.
+fn rest_leads_to(
+    alloc: Global,
+    front: i64,
+    value: &Value,
+    indexes: &Vec<Json>,
+    answer: &str,
+) -> bool {
+    match path_of(alloc, indexes) {
+        Some(path) => leads_on_to(alloc, front, value, path.as_slice(), answer),
+        None => false,
+    }
 }
 
 /// Returns `true` if the rest of a row's path has the row's result.
-fn rest_holds(alloc: Global, value: &Value, row: &Line) -> Result<bool, Fail> {
-    let (front, answer) = (usize::try_from(row.number(1)?)?, row.text(2)?);
-    let path = path_of(alloc, row.list(0)?)?;
-    let holds = leads_on_to(alloc, front, value, path.as_slice(), answer);
-    drop(path);
-    Ok(holds?)
+fn rest_holds(alloc: Global, value: &Value, row: &Line) -> bool {
+    match (row.list(0), row.number(1), row.text(2)) {
+        (Some(indexes), Some(front), Some(answer)) => {
+            rest_leads_to(alloc, front, value, indexes, answer)
+        }
+        _ => false,
+    }
 }
 
 /// Returns the value of a text of JSON.
@@ -155,17 +172,20 @@ fn a_walk_may_begin_after_a_path(rt: HostRuntime) -> Result<(), Fail> {
     answer
 }
 
-/// Returns `true` if the path of a row has the row's error, tried or not.
-fn refusal_holds(alloc: Global, row: &Line) -> Result<bool, Fail> {
-    let value = to_value(alloc, row.member(0)?)?;
-    let holds = refusal_of(alloc, &value, row);
-    drop(value);
-    holds
+/// Returns the value at a place of a row, if it has one and there is memory.
+fn value_at(alloc: Global, row: &Line, place: usize) -> Option<Value> {
+    match row.member(place) {
+        Some(member) => to_value(alloc, member).ok(),
+        None => None,
+    }
 }
 
-/// Returns `true` if the path of a row into this value has the row's error, tried or not.
-fn refusal_of(alloc: Global, value: &Value, row: &Line) -> Result<bool, Fail> {
-    answer_holds(alloc, value, row.list(1)?, row.text(2)?)
+/// Returns `true` if the path of a row has the row's error, tried or not.
+fn refusal_holds(alloc: Global, row: &Line) -> bool {
+    match value_at(alloc, row, 0) {
+        Some(value) => row_leads_to(alloc, &value, row, 1),
+        None => false,
+    }
 }
 
 #[test]
@@ -177,7 +197,11 @@ fn paths_are_refused(rt: HostRuntime) -> Result<(), Fail> {
 fn paths_lead_to_values(rt: HostRuntime) -> Result<(), Fail> {
     let alloc = rt.alloc();
     let value = value_in(alloc, VALUES)?;
-    let answer = rows_hold(alloc, PATHS, |alloc, row| row_holds(alloc, &value, row));
+    let answer = rows_hold(
+        alloc,
+        PATHS,
+        |alloc, row| row_leads_to(alloc, &value, row, 0),
+    );
     drop(value);
     answer
 }
@@ -193,41 +217,44 @@ const OWN_PARTS: &str = r#"[[10, 20], 1, "20"]
 [{"1": 5}, 1, null]
 ["word", "size", null]"#;
 
+/// Returns `true` if a value has this text.
+fn has_text(alloc: Global, value: &Value, text: &str) -> bool {
+    match value.to_kstr(alloc) {
+        Ok(found) => found.as_str() == text,
+        Err(_) => false,
+    }
+}
+
 /// Returns `true` if a part has this text, or if there is neither.
-fn has_text(alloc: Global, part: Option<&Value>, text: Option<&str>) -> Result<bool, Fail> {
+fn is_part(alloc: Global, part: Option<&Value>, text: Option<&str>) -> bool {
     match (part, text) {
-        (Some(part), Some(text)) => Ok(part.to_kstr(alloc)?.as_str() == text),
-        (part, text) => Ok(part.is_none() && text.is_none()),
+        (Some(part), Some(text)) => has_text(alloc, part, text),
+        (part, text) => part.is_none() && text.is_none(),
     }
 }
 
 /// Returns `true` if the own part of a value at an index has this text, or if there is neither.
-fn is_own_part(
-    alloc: Global,
-    value: &Value,
-    index: &Value,
-    text: Option<&str>,
-) -> Result<bool, Fail> {
+fn is_own_part(alloc: Global, value: &Value, index: &Value, text: Option<&str>) -> bool {
     match index {
-        Value::Scalar(index) => has_text(alloc, own_part(value, index), text),
-        _ => Err(Fail::from("an index is no scalar")),
+        Value::Scalar(index) => is_part(alloc, own_part(value, index), text),
+        _ => false,
     }
 }
 
 /// Returns `true` if the value of a row has at an index the own part that the row says.
-fn own_part_at(alloc: Global, index: &Value, row: &Line) -> Result<bool, Fail> {
-    let value = to_value(alloc, row.member(0)?)?;
-    let holds = is_own_part(alloc, &value, index, row.found_text(2));
-    drop(value);
-    holds
+fn own_part_at(alloc: Global, index: &Value, row: &Line) -> bool {
+    match value_at(alloc, row, 0) {
+        Some(value) => is_own_part(alloc, &value, index, row.text(2)),
+        None => false,
+    }
 }
 
 /// Returns `true` if the value of a row has the own part that the row says.
-fn own_part_holds(alloc: Global, row: &Line) -> Result<bool, Fail> {
-    let index = to_value(alloc, row.member(1)?)?;
-    let holds = own_part_at(alloc, &index, row);
-    drop(index);
-    holds
+fn own_part_holds(alloc: Global, row: &Line) -> bool {
+    match value_at(alloc, row, 1) {
+        Some(index) => own_part_at(alloc, &index, row),
+        None => false,
+    }
 }
 
 #[test]
@@ -243,18 +270,15 @@ fn push_squares(list: &mut Vec<Value>) -> Result<(), AllocError> {
     Ok(())
 }
 
-/// Returns a list of the squares below a hundred.
-fn squares(alloc: Global) -> Result<Vec<Value>, AllocError> {
+/// Returns `true` if a list of the squares below a hundred has a place at -10, and none at -11.
+fn is_bounded(alloc: Global) -> bool {
     let mut list = Vec::new(alloc);
-    push_squares(&mut list)?;
-    Ok(list)
+    push_squares(&mut list).is_ok() && !list.contains_key(-11) && list.contains_key(-10)
 }
 
 #[test]
 fn a_list_has_as_many_places_from_its_end(rt: HostRuntime) -> Result<(), Fail> {
-    let list = squares(rt.alloc())?;
-    let is_bounded = !list.contains_key(-11) && list.contains_key(-10);
-    holds(is_bounded, "the first place of ten is -10")
+    holds(is_bounded(rt.alloc()), "the first place of ten is -10")
 }
 
 /// Returns the index `name`.
@@ -264,54 +288,41 @@ fn name_index(alloc: Global) -> Result<Vec<ScalarCow<'static>>, AllocError> {
     Ok(indexes)
 }
 
-/// Puts the indexes -3 and `name` after those of a path.
-fn add_indexes(alloc: Global, path: &mut Path<'static>) -> Result<(), AllocError> {
-    path.reserve(2)?;
-    path.push(-3i64)?;
-    path.extend(name_index(alloc)?)
+/// Puts the indexes -3 and `name` after those of a path, and returns `true` if there is memory for them.
+fn add_indexes(alloc: Global, path: &mut Path<'static>) -> bool {
+    path.reserve(2).is_ok() && path.push(-3i64).is_ok() && add_name(alloc, path)
 }
 
-/// Returns the path `user.-3.name`.
-fn user_path(alloc: Global) -> Result<Path<'static>, AllocError> {
-    let mut path: Path<'static> = Path::with_index(alloc, "user")?;
-    add_indexes(alloc, &mut path)?;
-    Ok(path)
-}
-
-/// Returns `true` if a path shows as a text.
-fn path_shows(alloc: Global, path: &Path<'_>, text: &str) -> Result<bool, AllocError> {
-    Ok(path.to_string(alloc)?.as_str() == text)
+/// Puts the index `name` after those of a path, and returns `true` if there is memory for it.
+fn add_name(alloc: Global, path: &mut Path<'static>) -> bool {
+    match name_index(alloc) {
+        Ok(indexes) => path.extend(indexes).is_ok(),
+        Err(_) => false,
+    }
 }
 
 /// Returns `true` if a copy equals its path, until one more index is added to the path.
-fn is_copied(path: &mut Path<'static>) -> Result<bool, AllocError> {
-    let copy = path.clone()?;
-    let is_equal = copy == *path;
-    let pushed = path.push("x");
-    let is_other = copy != *path;
-    drop(copy);
-    pushed?;
-    Ok(is_equal && is_other)
+fn is_copied(path: &mut Path<'static>) -> bool {
+    let copy: Result<Path<'static>, AllocError> = path.clone();
+    match copy {
+        Ok(copy) => copy == *path && path.push("x").is_ok() && copy != *path,
+        Err(_) => false,
+    }
 }
 
-/// Fails if the path `user.-3.name` isn't a list of its indexes.
-fn has_its_indexes(alloc: Global, path: &mut Path<'static>) -> Result<(), Fail> {
-    holds(
-        path_shows(alloc, path, "user.-3.name")?,
-        "the path shows its indexes",
-    )?;
-    holds(path.iter().len() == 3, "the path has three indexes")?;
-    holds(
-        is_copied(path)?,
-        "the copy equals the path until an index more is there",
-    )?;
-    holds(path.as_slice().len() == 4, "the path has four indexes")
+/// Returns `true` if the path `user.-3.name` is a list of its indexes, as is its copy.
+fn has_its_indexes(alloc: Global, path: &mut Path<'static>) -> bool {
+    add_indexes(alloc, path)
+        && is_text(path.to_string(alloc), "user.-3.name")
+        && path.iter().len() == 3
+        && is_copied(path)
+        && path.as_slice().len() == 4
 }
 
 #[test]
 fn a_path_is_a_list_of_indexes(rt: HostRuntime) -> Result<(), Fail> {
-    let mut path = user_path(rt.alloc())?;
-    let answer = has_its_indexes(rt.alloc(), &mut path);
+    let mut path: Path<'static> = Path::with_index(rt.alloc(), "user")?;
+    let is_list = has_its_indexes(rt.alloc(), &mut path);
     drop(path);
-    answer
+    holds(is_list, "a path and its copy have their indexes")
 }
