@@ -75,10 +75,10 @@ pub(crate) fn path_of(alloc: Global, indexes: &Vec<Json>) -> Option<Vec<ScalarCo
     }
 }
 
-/// Returns `true` if trying a path gives a value exactly if finding it does.
-fn is_tried_alike(alloc: Global, value: &Value, path: &[ScalarCow<'_>]) -> bool {
+/// Returns `true` if trying a path gives a value exactly if it should.
+fn is_tried(alloc: Global, value: &Value, path: &[ScalarCow<'_>], is_so: bool) -> bool {
     match try_find(alloc, value, path) {
-        Ok(found) => found.is_some() == find(alloc, value, path).is_ok(),
+        Ok(found) => found.is_some() == is_so,
         Err(_) => false,
     }
 }
@@ -87,7 +87,7 @@ fn is_tried_alike(alloc: Global, value: &Value, path: &[ScalarCow<'_>]) -> bool 
 /// value exactly if it is tried to one.
 fn is_answered(alloc: Global, value: &Value, path: &[ScalarCow<'_>], answer: &str) -> bool {
     is_text(answer_text(alloc, find(alloc, value, path)), answer)
-        && is_tried_alike(alloc, value, path)
+        && is_tried(alloc, value, path, find(alloc, value, path).is_ok())
 }
 
 /// Returns `true` if the path of these indexes leads to the answer, tried or not.
