@@ -44,22 +44,52 @@ fn frame(alloc: Global, number: u32) -> Result<Frame, AllocError> {
     Ok(Frame::Stack(names, None))
 }
 
+/// Looks up each of these names.
+fn find_all<S: Scopes>(alloc: Global, scopes: &S, names: &[String]) -> Result<(), Problem> {
+    for name in names {
+        // Each result decides how the loop continues, so that the compiler drops no lookup.
+        if scopes
+            .try_get(alloc, &[ScalarCow::from(name.as_str())])?
+            .is_none()
+        {
+            return Err(Problem::Lost);
+        }
+    }
+    Ok(())
+}
+
+/// Returns how many nanoseconds it takes to look up each of these names.
+fn once<S: Scopes, C: Clock>(
+    alloc: Global,
+    clock: &C,
+    scopes: &S,
+    names: &[String],
+) -> Result<u128, Problem> {
+    let start = Instant::now(clock)?;
+    find_all(alloc, scopes, names)?;
+    Ok(start.elapsed(clock)?.as_nanos())
+}
+
+/// Returns the least number of nanoseconds that it takes to look up each of these names.
+fn least_time<S: Scopes, C: Clock>(
+    alloc: Global,
+    clock: &C,
+    scopes: &S,
+    names: &[String],
+) -> Result<u128, Problem> {
+    let mut best = u128::MAX;
+    for _ in 0..ROUNDS {
+        best = best.min(once(alloc, clock, scopes, names)?);
+    }
+    Ok(best)
+}
+
 /// Returns how many nanoseconds a lookup takes under the frames that are open.
 fn look_up<S: Scopes, C: Clock>(alloc: Global, clock: &C, scopes: &S) -> Result<u128, Problem> {
     let names = names(alloc)?;
-    let mut best = u128::MAX;
-    for _ in 0..ROUNDS {
-        let start = Instant::now(clock)?;
-        // Each result decides how the loop continues, so that the compiler drops no lookup.
-        for name in &names {
-            let path = [ScalarCow::from(name.as_str())];
-            if scopes.try_get(alloc, &path)?.is_none() {
-                return Err(Problem::Lost);
-            }
-        }
-        best = best.min(start.elapsed(clock)?.as_nanos());
-    }
-    Ok(best / u128::from(NAMES))
+    let time = least_time(alloc, clock, scopes, names.as_slice());
+    drop(names);
+    Ok(time? / u128::from(NAMES))
 }
 
 /// Measures the same under that many more frames.

@@ -3,13 +3,13 @@ use crate::problem::Problem;
 use bench::Filters;
 use bench::filters::AnyFilter;
 use bench::languages::filters;
-use liquid_core::model::{SharedArray, SharedObject};
+use liquid_core::model::object_from_str;
 use liquid_core::parser::{Filter, Language, ParseBlock, ParseFilter, ParseTag, parse};
 use liquid_core::partials::{EagerCompiler, EagerStore, InMemorySource, PartialCompiler};
 use liquid_core::runtime::{
     BuiltRuntime, ChainedScopes, FlatScopes, Renderable, Runtime, RuntimeBuilder, Scopes, Template,
 };
-use liquid_core::{Object, PartialStore, TextSink, Value};
+use liquid_core::{Error, Object, PartialStore, TextSink};
 use liquid_tags::{BlockNode, Blocks, TagNode, Tags, language};
 use std::alloc::{AllocError, Global};
 use std::rc::Rc;
@@ -33,35 +33,41 @@ type Page = Template<AnyFilter, TagNode<AnyFilter>, BlockNode>;
 fn page_text(alloc: Global, posts: u32) -> Result<String, AllocError> {
     let mut text = String::from_str(alloc, "<h1>{{ title }}</h1>\n")?;
     for number in 0..posts {
-        let line = format!(in alloc; "{{% include \"card\", post: posts[{number}] %}}\n")?;
-        text.push_str(line.as_str())?;
+        write!(
+            &mut text,
+            "{{% include \"card\", post: posts[{number}] %}}\n"
+        )?;
     }
     Ok(text)
 }
 
-fn post(alloc: Global, number: u32) -> Result<Value, AllocError> {
-    let mut post = Object::new(alloc);
-    let title = format!(in alloc; "Post {number}")?;
-    post.insert(String::from_str(alloc, "title")?, Value::scalar(title))?;
-    let words = Value::scalar(i64::from(number));
-    post.insert(String::from_str(alloc, "words")?, words)?;
-    Ok(Value::Object(SharedObject::shared(alloc, post)?))
+/// Adds posts to a text of JSON, each after a comma but the first.
+fn add_posts(text: &mut String, posts: u32) -> Result<(), AllocError> {
+    for number in 0..posts {
+        let comma = if number == 0 { "" } else { ", " };
+        write!(
+            text,
+            "{comma}{{\"title\": \"Post {number}\", \"words\": {number}}}"
+        )?;
+    }
+    Ok(())
+}
+
+/// Returns the JSON of the title of a site, and of its list of that many posts.
+fn globals_text(alloc: Global, posts: u32) -> Result<String, AllocError> {
+    let mut text = String::from_str(alloc, r#"{"title": "Field notes", "posts": ["#)?;
+    add_posts(&mut text, posts)?;
+    text.push_str("]}")?;
+    Ok(text)
 }
 
 /// Returns the title of a site, and its list of that many posts.
-fn globals(alloc: Global, posts: u32) -> Result<Object, AllocError> {
-    let mut list = Vec::new(alloc);
-    for number in 0..posts {
-        list.push(post(alloc, number)?)?;
+fn globals(alloc: Global, posts: u32) -> Result<Object, Error> {
+    let text = globals_text(alloc, posts)?;
+    match object_from_str(alloc, text.as_str()) {
+        Ok(globals) => globals,
+        Err(_) => Err(Error::with_msg(alloc, "The globals are no JSON")),
     }
-    let mut globals = Object::new(alloc);
-    let title = Value::scalar(String::from_str(alloc, "Field notes")?);
-    globals.insert(String::from_str(alloc, "title")?, title)?;
-    globals.insert(
-        String::from_str(alloc, "posts")?,
-        Value::Array(SharedArray::shared(alloc, list)?),
-    )?;
-    Ok(globals)
 }
 
 fn shared_language(alloc: Global) -> Result<Rc<TheLanguage>, AllocError> {
@@ -98,11 +104,13 @@ fn open_site(alloc: Global, posts: u32) -> Result<Site, Problem> {
 }
 
 /// Returns a runtime with the globals and the partials of a site of that many posts.
-fn base(alloc: Global, posts: u32, language: &Rc<TheLanguage>) -> Result<Base, AllocError> {
+fn base(alloc: Global, posts: u32, language: &Rc<TheLanguage>) -> Result<Base, Error> {
+    let globals = globals(alloc, posts)?;
+    let store = store(alloc, language)?;
     Ok(
         RuntimeBuilder::new(alloc)
-            .set_globals(globals(alloc, posts)?)
-            .set_partials(store(alloc, language)?)
+            .set_globals(globals)
+            .set_partials(store)
             .build(),
     )
 }

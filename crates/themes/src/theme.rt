@@ -2,7 +2,7 @@
 use crate::fault::Fault;
 use liquid_pages::PartialBytes;
 use std::alloc::{AllocError, Global};
-use std::fs::{self, File};
+use std::fs::{self, DirEntry, File};
 use std::io::Read;
 use std::path::AsPath;
 
@@ -42,16 +42,19 @@ fn read_file<P: AsPath>(rt: &HostRuntime, path: P) -> Result<Vec<u8>, Fault> {
     Ok(bytes)
 }
 
+/// Reads a partial of a folder.
+fn read_part(rt: &HostRuntime, entry: &DirEntry) -> Result<Part, Fault> {
+    let name = String::from_str(rt.alloc(), entry.file_name())?;
+    let text = read_file(rt, entry.path())?;
+    Ok(Part { name, text })
+}
+
 /// Reads the partials of a folder.
 fn read_parts(rt: &HostRuntime, folder: &str) -> Result<Vec<Part>, Fault> {
-    let alloc = rt.alloc();
-    let path = format!(in alloc; "{folder}/parts")?;
-    let mut parts = Vec::new(alloc);
+    let path = format!(in rt.alloc(); "{folder}/parts")?;
+    let mut parts = Vec::new(rt.alloc());
     for entry in fs::read_dir(rt, path.as_str())? {
-        let entry = entry?;
-        let name = String::from_str(alloc, entry.file_name())?;
-        let text = read_file(rt, entry.path())?;
-        parts.push(Part { name, text })?;
+        parts.push(read_part(rt, &entry?)?)?;
     }
     Ok(parts)
 }
