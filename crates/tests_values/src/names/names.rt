@@ -23,6 +23,22 @@ pub(crate) fn is_name<R: Runtime>(alloc: Global, runtime: &R, name: &str, text: 
     )
 }
 
+/// Returns `true` if a path is nil.
+fn is_nil<R: Runtime>(alloc: Global, runtime: &R, path: &[ScalarCow<'_>]) -> bool {
+    match runtime.get(alloc, path) {
+        Ok(value) => value.is_nil(),
+        Err(_) => false,
+    }
+}
+
+/// Returns `true` if a path has an error with this text.
+fn has_error<R: Runtime>(alloc: Global, runtime: &R, path: &[ScalarCow<'_>], text: &str) -> bool {
+    match runtime.get(alloc, path) {
+        Ok(_) => false,
+        Err(error) => is_text(error.to_string(alloc), text),
+    }
+}
+
 /// Returns `true` if a path has an error with this text, or is nil in a lenient runtime.
 fn is_refused<R: Runtime>(
     alloc: Global,
@@ -30,9 +46,10 @@ fn is_refused<R: Runtime>(
     path: &[ScalarCow<'_>],
     refusal: &str,
 ) -> bool {
-    match runtime.get(alloc, path) {
-        Ok(value) => runtime.is_lenient() && value.is_nil(),
-        Err(error) => !runtime.is_lenient() && is_text(error.to_string(alloc), refusal),
+    if runtime.is_lenient() {
+        is_nil(alloc, runtime, path)
+    } else {
+        has_error(alloc, runtime, path, refusal)
     }
 }
 
