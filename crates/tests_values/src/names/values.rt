@@ -8,17 +8,21 @@ pub(crate) fn text(alloc: Global, text: &str) -> Result<String, AllocError> {
     String::from_str(alloc, text)
 }
 
-/// Puts a value into an object.
-fn add(alloc: Global, object: &mut Object, name: &str, value: Value) -> Result<(), AllocError> {
-    object.insert(text(alloc, name)?, value)?;
-    Ok(())
+/// Gives a name of an object a number, and returns `true` if there is memory for it.
+fn add(alloc: Global, object: &mut Object, name: &str, number: i64) -> bool {
+    match text(alloc, name) {
+        Ok(name) => object.insert(name, Value::scalar(number)).is_ok(),
+        Err(_) => false,
+    }
 }
 
 /// Returns an object of numbers.
 pub(crate) fn numbers(alloc: Global, pairs: &[(&'static str, i64)]) -> Result<Object, AllocError> {
     let mut object = Object::new(alloc);
     for (name, number) in pairs {
-        add(alloc, &mut object, name, Value::scalar(*number))?;
+        if !add(alloc, &mut object, name, *number) {
+            return Err(AllocError);
+        }
     }
     Ok(object)
 }
