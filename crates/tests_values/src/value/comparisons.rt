@@ -39,10 +39,15 @@ const EQUALITIES: &str = r#"[true, "", true]
 [{"moment": [10, 3600]}, {"moment": [9, 0]}, true]
 [{"day": 16}, true, true]"#;
 
-fn is_equality(alloc: Global, row: &Line) -> Result<bool, Fail> {
-    let wanted = row.truth(2)?;
-    let (left, right) = pair_of(alloc, row)?;
-    Ok(ValueViewCmp::new(&left).value_eq(&ValueViewCmp::new(&right)) == wanted)
+fn are_equal(left: &Value, right: &Value) -> bool {
+    ValueViewCmp::new(left).value_eq(&ValueViewCmp::new(right))
+}
+
+fn is_equality(alloc: Global, row: &Line) -> bool {
+    match pair_of(alloc, row) {
+        Some((left, right)) => row.truth(2) == Some(are_equal(&left, &right)),
+        None => false,
+    }
 }
 
 #[test]
@@ -76,10 +81,16 @@ pub(crate) fn name_of(order: Option<Ordering>) -> Option<&'static str> {
     }
 }
 
-fn is_order(alloc: Global, row: &Line) -> Result<bool, Fail> {
-    let (left, right) = pair_of(alloc, row)?;
-    let answer = ValueViewCmp::new(&left).value_cmp(&ValueViewCmp::new(&right));
-    Ok(name_of(answer) == row.found_text(2))
+/// Returns the name of the loose order of two values, if they have one.
+fn order_of(left: &Value, right: &Value) -> Option<&'static str> {
+    name_of(ValueViewCmp::new(left).value_cmp(&ValueViewCmp::new(right)))
+}
+
+fn is_order(alloc: Global, row: &Line) -> bool {
+    match pair_of(alloc, row) {
+        Some((left, right)) => order_of(&left, &right) == row.text(2),
+        None => false,
+    }
 }
 
 #[test]
@@ -104,12 +115,17 @@ const SAME: &str = r#"[{"a": 1, "b": 2}, {"b": 2, "a": 1}, true]
 [{"day": 16}, {"moment": [10, 3600]}, false]
 [{"moment": [10, 3600]}, {"moment": [9, 0]}, true]"#;
 
-/// Returns `true` if two values are the same as the row says, and have one hash where they are.
-fn is_sameness(alloc: Global, row: &Line) -> Result<bool, Fail> {
-    let wanted = row.truth(2)?;
-    let (left, right) = pair_of(alloc, row)?;
-    let is_same = left == right;
-    Ok((is_same == wanted) & (!is_same | (fed(&left) == fed(&right))))
+/// Returns `true` if two values are the same if the row says so, and have one hash where they are.
+fn are_same(left: &Value, right: &Value, wanted: Option<bool>) -> bool {
+    let is_same = *left == *right;
+    wanted == Some(is_same) && (!is_same || fed(left) == fed(right))
+}
+
+fn is_sameness(alloc: Global, row: &Line) -> bool {
+    match pair_of(alloc, row) {
+        Some((left, right)) => are_same(&left, &right, row.truth(2)),
+        None => false,
+    }
 }
 
 #[test]
