@@ -110,10 +110,18 @@ fn array_of(alloc: Global, items: &Vec<Json>) -> Option<Value> {
     }
 }
 
+/// Puts a value into an object, and returns `true` if the name was made and memory doesn't run out.
+fn put(object: &mut Object, name: Result<String, AllocError>, value: Value) -> bool {
+    match name {
+        Ok(name) => object.insert(name, value).is_ok(),
+        Err(_) => false,
+    }
+}
+
 /// Puts a value into an object, and returns `true` if there is one and memory doesn't run out.
 fn insert(alloc: Global, object: &mut Object, name: &str, value: Option<Value>) -> bool {
-    match String::from_str(alloc, name).ok().zip(value) {
-        Some((name, value)) => object.insert(name, value).is_ok(),
+    match value {
+        Some(value) => put(object, String::from_str(alloc, name), value),
         None => false,
     }
 }

@@ -43,11 +43,53 @@ fn are_equal(left: &Value, right: &Value) -> bool {
     ValueViewCmp::new(left).value_eq(&ValueViewCmp::new(right))
 }
 
-fn is_equality(alloc: Global, row: &Line) -> bool {
+/// Returns the name of an order, if there is one.
+pub(crate) fn name_of(order: Option<Ordering>) -> Option<&'static str> {
+    match order {
+        Some(Ordering::Less) => Some("less"),
+        Some(Ordering::Equal) => Some("equal"),
+        Some(Ordering::Greater) => Some("greater"),
+        None => None,
+    }
+}
+
+/// Returns the name of the loose order of two values, if they have one.
+fn order_of(left: &Value, right: &Value) -> Option<&'static str> {
+    name_of(ValueViewCmp::new(left).value_cmp(&ValueViewCmp::new(right)))
+}
+
+fn fed(value: &Value) -> u64 {
+    let mut hasher = DefaultHasher::new();
+    value.hash(&mut hasher);
+    hasher.finish()
+}
+
+/// Returns `true` if two values are the same if that is wanted, and have one hash where they are.
+fn are_same(left: &Value, right: &Value, wanted: Option<bool>) -> bool {
+    let is_same = *left == *right;
+    wanted == Some(is_same) && (!is_same || fed(left) == fed(right))
+}
+
+/// Returns `true` if two values compare as a row says.
+fn compare(left: &Value, right: &Value, how: &str, row: &Line) -> bool {
+    match how {
+        "loosely" => row.truth(2) == Some(are_equal(left, right)),
+        "in order" => row.text(2) == order_of(left, right),
+        "strictly" => are_same(left, right, row.truth(2)),
+        _ => false,
+    }
+}
+
+/// Returns `true` if the values of a row compare as it says.
+fn are_compared(alloc: Global, row: &Line, how: &str) -> bool {
     match pair_of(alloc, row) {
-        Some((left, right)) => row.truth(2) == Some(are_equal(&left, &right)),
+        Some((left, right)) => compare(&left, &right, how, row),
         None => false,
     }
+}
+
+fn is_equality(alloc: Global, row: &Line) -> bool {
+    are_compared(alloc, row, "loosely")
 }
 
 #[test]
@@ -71,37 +113,13 @@ const ORDERS: &str = r#"[[1], [1, 2], "less"]
 [{"day": 15}, {"day": 16}, "less"]
 [{"moment": [10, 3600]}, {"moment": [10, 0]}, "less"]"#;
 
-/// Returns the name of an order, if there is one.
-pub(crate) fn name_of(order: Option<Ordering>) -> Option<&'static str> {
-    match order {
-        Some(Ordering::Less) => Some("less"),
-        Some(Ordering::Equal) => Some("equal"),
-        Some(Ordering::Greater) => Some("greater"),
-        None => None,
-    }
-}
-
-/// Returns the name of the loose order of two values, if they have one.
-fn order_of(left: &Value, right: &Value) -> Option<&'static str> {
-    name_of(ValueViewCmp::new(left).value_cmp(&ValueViewCmp::new(right)))
-}
-
 fn is_order(alloc: Global, row: &Line) -> bool {
-    match pair_of(alloc, row) {
-        Some((left, right)) => order_of(&left, &right) == row.text(2),
-        None => false,
-    }
+    are_compared(alloc, row, "in order")
 }
 
 #[test]
 fn the_first_difference_decides(rt: HostRuntime) -> Result<(), Fail> {
     rows_hold(rt.alloc(), ORDERS, is_order)
-}
-
-fn fed(value: &Value) -> u64 {
-    let mut hasher = DefaultHasher::new();
-    value.hash(&mut hasher);
-    hasher.finish()
 }
 
 // Two values, and whether they are the same.
@@ -115,17 +133,8 @@ const SAME: &str = r#"[{"a": 1, "b": 2}, {"b": 2, "a": 1}, true]
 [{"day": 16}, {"moment": [10, 3600]}, false]
 [{"moment": [10, 3600]}, {"moment": [9, 0]}, true]"#;
 
-/// Returns `true` if two values are the same if the row says so, and have one hash where they are.
-fn are_same(left: &Value, right: &Value, wanted: Option<bool>) -> bool {
-    let is_same = *left == *right;
-    wanted == Some(is_same) && (!is_same || fed(left) == fed(right))
-}
-
 fn is_sameness(alloc: Global, row: &Line) -> bool {
-    match pair_of(alloc, row) {
-        Some((left, right)) => are_same(&left, &right, row.truth(2)),
-        None => false,
-    }
+    are_compared(alloc, row, "strictly")
 }
 
 #[test]

@@ -62,18 +62,22 @@ fn held_object_shows(alloc: Global, value: &Value, render: &str, source: &str) -
     }
 }
 
-/// Returns `true` if the value of a row displays the row's texts, by itself and through a reference, and so do the types
-/// that display a value or the object that it is.
-fn is_shown(alloc: Global, row: &Line) -> bool {
-    let (Some(render), Some(source)) = (row.text(0), row.text(1)) else {
-        return false;
-    };
-    match value_at(alloc, row, 2) {
+/// Returns `true` if there is a value, and it displays the two texts, by itself and through a reference, and so do the
+/// types that display it or the object that it is.
+fn all_show(alloc: Global, value: Option<Value>, render: &str, source: &str) -> bool {
+    match value {
         Some(value) => {
             lent_shows(alloc, &value, render, source)
                 && value_is_displayed(alloc, &value, render, source)
                 && held_object_shows(alloc, &value, render, source)
         }
+        None => false,
+    }
+}
+
+fn is_shown(alloc: Global, row: &Line) -> bool {
+    match row.text(0).zip(row.text(1)) {
+        Some((render, source)) => all_show(alloc, value_at(alloc, row, 2), render, source),
         None => false,
     }
 }

@@ -19,17 +19,30 @@ const TEXTS: &str = r#"["1", "1", "whole number", 1]
 ["", "empty", "empty", {"state": "empty"}]
 ["", "nil", "nil", null]"#;
 
-/// Returns `true` if the value of a row and the types that display it write the row's texts, and the name of its type is
-/// the row's.
-fn has_texts(alloc: Global, row: &Line) -> bool {
-    let (Some(render), Some(source)) = (row.text(0), row.text(1)) else {
-        return false;
-    };
-    match value_at(alloc, row, 3) {
+/// Returns `true` if there is a value, and it and the types that display it write the two texts.
+fn is_displayed(alloc: Global, value: Option<Value>, render: &str, source: &str) -> bool {
+    match value {
         Some(value) => {
-            value_is_displayed(alloc, &value, render, source)
-                && has_text(alloc, &value, render)
-                && row.text(2) == Some(value.type_name())
+            value_is_displayed(alloc, &value, render, source) && has_text(alloc, &value, render)
+        }
+        None => false,
+    }
+}
+
+/// Returns `true` if there is a value, and its type has this name.
+fn has_type(value: Option<Value>, name: Option<&str>) -> bool {
+    match value {
+        Some(value) => name == Some(value.type_name()),
+        None => false,
+    }
+}
+
+/// Returns `true` if the value of a row writes the row's texts, and the name of its type is the row's.
+fn has_texts(alloc: Global, row: &Line) -> bool {
+    match row.text(0).zip(row.text(1)) {
+        Some((render, source)) => {
+            is_displayed(alloc, value_at(alloc, row, 3), render, source)
+                && has_type(value_at(alloc, row, 3), row.text(2))
         }
         None => false,
     }
@@ -38,21 +51,6 @@ fn has_texts(alloc: Global, row: &Line) -> bool {
 #[test]
 fn values_have_texts(rt: HostRuntime) -> Result<(), Fail> {
     rows_hold(rt.alloc(), TEXTS, has_texts)
-}
-
-/// Adds a name after others, with a space between, and returns `true` if memory doesn't run out.
-fn add_name(names: &mut String, name: &str) -> bool {
-    (names.is_empty() || names.push_str(" ").is_ok()) && names.push_str(name).is_ok()
-}
-
-/// Writes down the names of the states that a value is in, and returns `true` if memory doesn't run out.
-fn add_states(names: &mut String, value: &Value) -> bool {
-    for (state, name) in &STATE_NAMES {
-        if value.query_state(*state) && !add_name(names, name) {
-            return false;
-        }
-    }
-    true
 }
 
 static STATE_NAMES: [(State, &str); 4] = [
@@ -75,15 +73,23 @@ const STATES: &str = r#"["truthy", 0]
 ["default empty blank", null]
 ["default empty blank", {"state": "truthy"}]"#;
 
-/// Returns `true` if these are the names of the states that a value is in.
-fn has_states(alloc: Global, value: &Value, wanted: &str) -> bool {
-    let mut names = String::new(alloc);
-    add_states(&mut names, value) && names.as_str() == wanted
+/// Returns `true` if these are the names of the states that a value is in, in order.
+fn has_states(value: &Value, names: &str) -> bool {
+    let mut rest = names;
+    for (state, name) in &STATE_NAMES {
+        if value.query_state(*state) {
+            match rest.strip_prefix(*name) {
+                Some(after) => rest = after.trim_start(),
+                None => return false,
+            }
+        }
+    }
+    rest.is_empty()
 }
 
 fn is_in_states(alloc: Global, row: &Line) -> bool {
-    match row.text(0).zip(value_at(alloc, row, 1)) {
-        Some((wanted, value)) => has_states(alloc, &value, wanted),
+    match value_at(alloc, row, 1) {
+        Some(value) => has_states(&value, row.text(0).unwrap_or("no names")),
         None => false,
     }
 }

@@ -54,9 +54,17 @@ fn lends(value: &mut Value, kind: &str) -> bool {
         && value.as_object_mut().is_some() == is_object
 }
 
+/// Returns `true` if there is a value, and it lends and gives what a value of this kind does.
+fn is_kind(value: Option<Value>, kind: &str) -> bool {
+    match value {
+        Some(mut value) => lends(&mut value, kind) && gives(&value, kind),
+        None => false,
+    }
+}
+
 fn is_of_kind(alloc: Global, row: &Line) -> bool {
-    match row.text(0).zip(value_at(alloc, row, 1)) {
-        Some((kind, mut value)) => lends(&mut value, kind) && gives(&value, kind),
+    match row.text(0) {
+        Some(kind) => is_kind(value_at(alloc, row, 1), kind),
         None => false,
     }
 }
@@ -139,10 +147,17 @@ fn is_borrowed_alike(value: &Value, kind: &str) -> bool {
         && is_same(ValueCow::from(value).into_owned(), value)
 }
 
-/// Returns `true` if the value of a row is as its clone, and is borrowed alike.
+/// Returns `true` if there is a value, and it is as its clone and is borrowed alike.
+fn is_copied_alike(value: Option<Value>, kind: &str) -> bool {
+    match value {
+        Some(value) => is_same(value.clone(), &value) && is_borrowed_alike(&value, kind),
+        None => false,
+    }
+}
+
 fn is_copied(alloc: Global, row: &Line) -> bool {
-    match row.text(0).zip(value_at(alloc, row, 1)) {
-        Some((kind, value)) => is_same(value.clone(), &value) && is_borrowed_alike(&value, kind),
+    match row.text(0) {
+        Some(kind) => is_copied_alike(value_at(alloc, row, 1), kind),
         None => false,
     }
 }
