@@ -2,7 +2,7 @@
 use liquid_dates::{Date, DateError, DateFormatError, DateTime};
 use std::alloc::Global;
 use std::test::Fail;
-use tests_lines::{Line, holds, rows_hold, same};
+use tests_lines::{Line, holds, is_text, rows_hold};
 
 // What patterns print of a moment in November: each directive by itself.
 const PLAIN: &str = r#"["%Y", "2022"]
@@ -169,15 +169,27 @@ fn november() -> Result<DateTime, DateError> {
     DateTime::from_parts(Date::from_ymd(2022, 11, 3)?, 7, 56, 37, 666_777_888, 21600)
 }
 
-fn is_printed(alloc: Global, row: &Line, date_time: DateTime) -> Result<bool, Fail> {
-    let (pattern, text) = (row.text(0)?, row.text(1)?);
-    Ok(date_time.format(alloc, pattern)?.as_str() == text)
+/// Returns `true` if a text was printed and is the row's.
+fn is_in_row(printed: Result<String, DateFormatError>, row: &Line) -> bool {
+    match printed {
+        Ok(text) => row.text(1) == Some(text.as_str()),
+        Err(_) => false,
+    }
 }
 
-/// Refuses a table of which a row's pattern doesn't print the row's text.
+fn is_printed(alloc: Global, row: &Line, date_time: DateTime) -> bool {
+    match row.text(0) {
+        Some(pattern) => is_in_row(date_time.format(alloc, pattern), row),
+        None => false,
+    }
+}
+
+/// Fails for the first row of a table whose pattern doesn't print the row's text of a moment.
 fn prints(alloc: Global, moment: Result<DateTime, DateError>, rows: &str) -> Result<(), Fail> {
-    let date_time = moment?;
-    rows_hold(alloc, rows, |alloc, row| is_printed(alloc, row, date_time))
+    match moment {
+        Ok(date_time) => rows_hold(alloc, rows, |alloc, row| is_printed(alloc, row, date_time)),
+        Err(_) => holds(false, "a moment"),
+    }
 }
 
 fn january() -> Result<DateTime, DateError> {
@@ -204,36 +216,62 @@ fn patterns_are_printed(rt: HostRuntime) -> Result<(), Fail> {
 }
 
 /// Returns the error of a pattern, if it has one.
-fn refusal(alloc: Global, pattern: &str) -> Result<Option<DateFormatError>, DateError> {
-    Ok(november()?.format(alloc, pattern).err())
+fn refusal(alloc: Global, pattern: &str) -> Option<DateFormatError> {
+    november().ok()?.format(alloc, pattern).err()
 }
 
-/// Returns `true` if the row's pattern is an error with the row's text.
-fn is_refused(alloc: Global, row: &Line) -> Result<bool, Fail> {
-    let (pattern, text) = (row.text(0)?, row.text(1)?);
-    match refusal(alloc, pattern)? {
-        Some(error) => Ok(error.to_string(alloc)?.as_str() == text),
-        None => Ok(false),
+/// Returns `true` if a pattern is an error with this text.
+fn refuses(alloc: Global, pattern: &str, text: &str) -> bool {
+    match refusal(alloc, pattern) {
+        Some(error) => is_text(error.to_string(alloc), text),
+        None => false,
+    }
+}
+
+fn is_refused(alloc: Global, row: &Line) -> bool {
+    match row.text(0).zip(row.text(1)) {
+        Some((pattern, text)) => refuses(alloc, pattern, text),
+        None => false,
     }
 }
 
 #[test]
 fn patterns_are_refused(rt: HostRuntime) -> Result<(), Fail> {
     rows_hold(rt.alloc(), REFUSED, is_refused)?;
-    let great = refusal(rt.alloc(), "%18446744073709551615d")?;
+    let great = refusal(rt.alloc(), "%18446744073709551615d");
     holds(great == Some(DateFormatError::Memory), "the greatest width")
 }
 
-fn is_read(_alloc: Global, row: &Line) -> Result<bool, Fail> {
-    let (instant, offset) = (i128::from(row.number(1)?), row.number(2)?);
-    match DateTime::from_str(row.text(0)?, november()?) {
-        Some(read) => Ok(read.instant() == instant && i64::from(read.offset()) == offset),
-        None => Ok(false),
+/// Returns `true` if a date time has the instant and the offset of the row.
+fn is_instant(read: DateTime, row: &Line) -> bool {
+    match row.number(1) {
+        Some(instant) => {
+            read.instant() == i128::from(instant) && row.number(2) == Some(i64::from(read.offset()))
+        }
+        None => false,
     }
 }
 
-fn is_no_date_time(_alloc: Global, row: &Line) -> Result<bool, Fail> {
-    Ok(DateTime::from_str(row.text(0)?, november()?).is_none())
+/// Returns the text of a row, and a moment in November.
+fn text_and_moment(row: &Line) -> Option<(&str, DateTime)> {
+    row.text(0).zip(november().ok())
+}
+
+fn is_read(_alloc: Global, row: &Line) -> bool {
+    let Some((text, moment)) = text_and_moment(row) else {
+        return false;
+    };
+    match DateTime::from_str(text, moment) {
+        Some(read) => is_instant(read, row),
+        None => false,
+    }
+}
+
+fn is_no_date_time(_alloc: Global, row: &Line) -> bool {
+    match text_and_moment(row) {
+        Some((text, moment)) => DateTime::from_str(text, moment).is_none(),
+        None => false,
+    }
 }
 
 #[test]
@@ -242,33 +280,52 @@ fn date_times_are_read(rt: HostRuntime) -> Result<(), Fail> {
     rows_hold(rt.alloc(), NO_DATE_TIME, is_no_date_time)
 }
 
-/// Fails unless a text is this date, with a moment in November.
-fn is_date(text: &str, date: Date) -> Result<(), Fail> {
-    holds(Date::from_str(text, november()?) == Some(date), text)
+/// Returns `true` if a text is this date, with a moment in November.
+fn is_date(text: &str, date: Result<Date, DateError>) -> bool {
+    match november().ok().zip(date.ok()) {
+        Some((moment, date)) => Date::from_str(text, moment) == Some(date),
+        None => false,
+    }
 }
 
-/// Fails unless each of the texts of a day in March is that date.
-fn check_march() -> Result<(), Fail> {
-    let march = Date::from_ymd(2022, 3, 1)?;
-    for text in ["01 Mar 2022", "01 March 2022", "2022-03-01"] {
-        is_date(text, march)?;
-    }
-    Ok(())
+/// Returns the date of a moment in November.
+fn today() -> Result<Date, DateError> {
+    Ok(november()?.date())
 }
 
 #[test]
 fn dates_are_read(_rt: HostRuntime) -> Result<(), Fail> {
-    check_march()?;
-    is_date("today", november()?.date())?;
-    is_date("-0020-06-13", Date::from_ymd(-20, 6, 13)?)
+    let march = Date::from_ymd(2022, 3, 1);
+    holds(
+        is_date("01 Mar 2022", march)
+            && is_date("01 March 2022", march)
+            && is_date("2022-03-01", march),
+        "a day in March",
+    )?;
+    holds(
+        is_date("today", today()) && is_date("-0020-06-13", Date::from_ymd(-20, 6, 13)),
+        "today, and a year before 0",
+    )
+}
+
+/// Returns `true` if a text is no date, with a moment in November.
+fn is_no_date(text: &str) -> bool {
+    match november() {
+        Ok(moment) => Date::from_str(text, moment).is_none(),
+        Err(_) => false,
+    }
 }
 
 #[test]
 fn other_texts_are_no_dates(_rt: HostRuntime) -> Result<(), Fail> {
-    for text in ["", "Today", "1 Mar 2022", "2022-02-29", "2022-03-01 "] {
-        holds(Date::from_str(text, november()?).is_none(), text)?;
-    }
-    Ok(())
+    holds(
+        is_no_date("")
+            && is_no_date("Today")
+            && is_no_date("1 Mar 2022")
+            && is_no_date("2022-02-29")
+            && is_no_date("2022-03-01 "),
+        "texts that are no dates",
+    )
 }
 
 /// Returns a moment of a year before 0, with an offset that has seconds.
@@ -276,120 +333,145 @@ fn early() -> Result<DateTime, DateError> {
     DateTime::from_ymd(-20, 6, 13)?.with_offset(-1830)
 }
 
-/// Fails unless a date time is printed as this text.
-fn is_text(alloc: Global, moment: DateTime, text: &str) -> Result<(), Fail> {
-    same(moment.to_string(alloc)?.as_str(), text)
-}
-
-/// Fails unless a moment in November and its date have these texts.
-fn check_november(alloc: Global) -> Result<(), Fail> {
-    let moment = november()?;
-    is_text(alloc, moment, "2022-11-03 07:56:37.666777888 +0600")?;
-    same(moment.date().to_string(alloc)?.as_str(), "2022-11-03")
+/// Returns `true` if a date time and its date are printed as these texts.
+fn has_texts(alloc: Global, moment: DateTime, text: &str, date: &str) -> bool {
+    is_text(moment.to_string(alloc), text) && is_text(moment.date().to_string(alloc), date)
 }
 
 #[test]
 fn date_times_are_printed(rt: HostRuntime) -> Result<(), Fail> {
-    check_november(rt.alloc())?;
-    is_text(rt.alloc(), early()?, "-0020-06-12 23:29:30 -0030")
+    let alloc = rt.alloc();
+    let text = "2022-11-03 07:56:37.666777888 +0600";
+    let are_printed = match november().ok().zip(early().ok()) {
+        Some((moment, early)) => {
+            has_texts(alloc, moment, text, "2022-11-03")
+                && is_text(early.to_string(alloc), "-0020-06-12 23:29:30 -0030")
+        }
+        None => false,
+    };
+    holds(are_printed, "a date time, its date, and an early one")
+}
+
+/// Returns `true` if a mail form was made and is this one.
+fn is_mail(found: Result<String, DateError>, text: &str) -> bool {
+    match found {
+        Ok(found) => found.as_str() == text,
+        Err(_) => false,
+    }
+}
+
+/// Returns the date time of a text, with a moment in November.
+fn read(text: &str) -> Option<DateTime> {
+    DateTime::from_str(text, november().ok()?)
 }
 
 #[test]
 fn mail_has_a_form_of_its_own(rt: HostRuntime) -> Result<(), Fail> {
-    let alloc = rt.alloc();
-    match DateTime::from_str("2016-02-16 10:00:00 +0100", november()?) {
-        Some(mail) => same(
-            mail.to_rfc2822(alloc)?.as_str(),
-            "Tue, 16 Feb 2016 10:00:00 +0100",
-        ),
-        None => holds(false, "a date time"),
-    }
+    let wanted = "Tue, 16 Feb 2016 10:00:00 +0100";
+    let is_mail = match read("2016-02-16 10:00:00 +0100") {
+        Some(mail) => is_mail(mail.to_rfc2822(rt.alloc()), wanted),
+        None => false,
+    };
+    holds(is_mail, "the form for mail")
 }
 
 #[test]
 fn a_year_before_0_has_no_form_for_mail(rt: HostRuntime) -> Result<(), Fail> {
-    holds(
-        early()?.to_rfc2822(rt.alloc()).err() == Some(DateError::NoRfc2822Form),
-        "a year before 0",
-    )
+    let is_refused = match early() {
+        Ok(early) => early.to_rfc2822(rt.alloc()).err() == Some(DateError::NoRfc2822Form),
+        Err(_) => false,
+    };
+    holds(is_refused, "a year before 0")
 }
 
-/// Fails unless a moment in November has its parts.
-fn has_parts(moment: DateTime) -> Result<(), Fail> {
-    holds(
-        moment.year() == 2022 && moment.month() == 11 && moment.day() == 3,
-        "the date",
-    )?;
-    let is_time = moment.hour() == 7 && moment.minute() == 56 && moment.second() == 37;
-    holds(
-        is_time && moment.nanosecond() == 666_777_888,
-        "the time with its fraction",
-    )?;
-    holds(
-        moment.ordinal() == 307 && moment.iso_week() == 44,
-        "day and week of the year",
-    )
+/// Returns `true` if a moment in November has its parts.
+fn has_parts(moment: DateTime) -> bool {
+    moment.year() == 2022
+        && moment.month() == 11
+        && moment.day() == 3
+        && moment.hour() == 7
+        && moment.minute() == 56
+        && moment.second() == 37
+        && moment.nanosecond() == 666_777_888
+        && moment.ordinal() == 307
+        && moment.iso_week() == 44
+}
+
+/// Returns a moment in November, and a date in the last week of the year before its own.
+fn moment_and_date() -> Result<(DateTime, Date), DateError> {
+    Ok((november()?, Date::from_ymd(2021, 1, 3)?))
 }
 
 #[test]
 fn moments_have_parts(_rt: HostRuntime) -> Result<(), Fail> {
-    has_parts(november()?)?;
-    holds(
-        Date::from_ymd(2021, 1, 3)?.iso_week() == 53,
-        "the last week of the year before",
-    )
-}
-
-/// Returns `true` if a moment on another date has that date.
-fn is_on(moment: DateTime, date: Date) -> bool {
-    moment.with_date(date).date() == date
+    let have_parts = match moment_and_date() {
+        Ok((moment, date)) => has_parts(moment) && date.iso_week() == 53,
+        Err(_) => false,
+    };
+    holds(have_parts, "the date, the time, and the week of the year")
 }
 
 #[test]
 fn a_moment_is_put_on_another_date(_rt: HostRuntime) -> Result<(), Fail> {
-    holds(
-        is_on(november()?, Date::from_ymd(2021, 1, 3)?),
-        "another date",
-    )
+    let is_on = match moment_and_date() {
+        Ok((moment, date)) => moment.with_date(date).date() == date,
+        Err(_) => false,
+    };
+    holds(is_on, "another date")
+}
+
+/// Returns `true` if a date time was made and is this one.
+fn is_moment(made: Result<DateTime, DateError>, moment: DateTime) -> bool {
+    match made {
+        Ok(made) => made == moment,
+        Err(_) => false,
+    }
 }
 
 #[test]
 fn a_moment_is_the_same_with_another_offset(_rt: HostRuntime) -> Result<(), Fail> {
-    let moment = november()?;
-    holds(moment.with_offset(0)? == moment, "another offset")
+    let is_same = match november() {
+        Ok(moment) => is_moment(moment.with_offset(0), moment),
+        Err(_) => false,
+    };
+    holds(is_same, "another offset")
 }
 
 #[test]
 fn now_is_the_default_without_a_clock(_rt: HostRuntime) -> Result<(), Fail> {
     holds(
-        DateTime::now(0)? == DateTime::default(),
+        is_moment(DateTime::now(0), DateTime::default()),
         "now, without a clock",
     )
 }
 
-/// Fails unless offsets that are too far are refused.
-fn check_offsets() -> Result<(), Fail> {
-    let far = november()?.with_offset(93_600);
-    holds(
-        far.err() == Some(DateError::PartOutOfRange),
-        "an offset of 26 hours",
-    )?;
-    let last = DateTime::from_ymd(9999, 12, 31)?.with_offset(86_400);
-    holds(
-        last.err() == Some(DateError::OutsideYears),
-        "after the last year",
-    )
+/// Returns `true` if a moment has no such offset, by this error.
+fn refuses_offset(moment: Result<DateTime, DateError>, seconds: i32, error: DateError) -> bool {
+    match moment {
+        Ok(moment) => moment.with_offset(seconds).err() == Some(error),
+        Err(_) => false,
+    }
+}
+
+/// Returns `true` if a date was made and is before another one that was made.
+fn is_before(date: Result<Date, DateError>, other: Result<Date, DateError>) -> bool {
+    match date.ok().zip(other.ok()) {
+        Some((date, other)) => date < other,
+        None => false,
+    }
 }
 
 #[test]
 fn parts_out_of_range_are_refused(_rt: HostRuntime) -> Result<(), Fail> {
-    check_offsets()?;
+    let last = DateTime::from_ymd(9999, 12, 31);
     holds(
-        Date::from_ymd(2022, 2, 29).err() == Some(DateError::PartOutOfRange),
-        "29 February 2022",
+        refuses_offset(november(), 93_600, DateError::PartOutOfRange)
+            && refuses_offset(last, 86_400, DateError::OutsideYears),
+        "an offset of 26 hours, and one after the last year",
     )?;
     holds(
-        Date::from_ymd(-1, 12, 31)? < Date::from_ymd(0, 1, 1)?,
-        "the order of dates",
+        Date::from_ymd(2022, 2, 29).err() == Some(DateError::PartOutOfRange)
+            && is_before(Date::from_ymd(-1, 12, 31), Date::from_ymd(0, 1, 1)),
+        "29 February 2022, and the order of dates",
     )
 }

@@ -4,6 +4,7 @@ mod sharing;
 mod shown;
 mod texts;
 mod values;
+mod walks;
 
 pub(crate) use comparisons::name_of;
 use liquid_dates::{Date, DateTime};

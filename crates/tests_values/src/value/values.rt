@@ -1,10 +1,9 @@
 //! What values contain, what they are made from, and walks over objects.
+use super::walks::{
+    entries_are_walked, names_are_walked, owned_entries_are_walked, values_are_walked,
+};
 use super::{has_text, insert, push, value_at, value_in};
 use liquid_scalar::Scalar;
-use liquid_value::map::{IntoIter, Iter, Keys, Values};
-use liquid_value::steps::{
-    step_over_entries, step_over_keys, step_over_owned_entries, step_over_values,
-};
 use liquid_value::{Array, Object, State, Value, ValueCow};
 use std::alloc::{AllocError, Global};
 use std::test::Fail;
@@ -298,34 +297,6 @@ fn objects_are_maps(rt: HostRuntime) -> Result<(), Fail> {
     holds(is_a_map(alloc, two_entries(alloc)), "entries")
 }
 
-// How many are left before a step, the name and the text of the entry that it takes, and how many are left then.
-static STEPS: [(usize, Option<&str>, &str, usize); 4] = [
-    (2, Some("a"), "1", 1),
-    (1, Some("b"), "2", 0),
-    (0, None, "", 0),
-    (0, None, "", 0),
-];
-
-/// Returns `true` if a name was found and is the one wanted, or if there is neither.
-fn is_name(found: Option<&String>, wanted: Option<&str>) -> bool {
-    match found {
-        Some(name) => wanted == Some(name.as_str()),
-        None => wanted.is_none(),
-    }
-}
-
-/// Returns `true` if a walk over entries takes the steps.
-fn entries_are_walked(mut entries: Iter<'_>) -> bool {
-    for (left, name, _, then) in &STEPS {
-        let (before, entry, after) = step_over_entries(&mut entries);
-        let found = entry.map(|(found, _)| found);
-        if before != *left || !is_name(found, *name) || after != *then {
-            return false;
-        }
-    }
-    true
-}
-
 #[test]
 fn walks_over_entries_say_how_many_are_left_and_end(rt: HostRuntime) -> Result<(), Fail> {
     let is_walked = match two_entries(rt.alloc()) {
@@ -333,17 +304,6 @@ fn walks_over_entries_say_how_many_are_left_and_end(rt: HostRuntime) -> Result<(
         None => false,
     };
     holds(is_walked, "each step over entries")
-}
-
-/// Returns `true` if a walk over names takes the steps.
-fn names_are_walked(mut keys: Keys<'_>) -> bool {
-    for (left, name, _, then) in &STEPS {
-        let (before, key, after) = step_over_keys(&mut keys);
-        if before != *left || !is_name(key, *name) || after != *then {
-            return false;
-        }
-    }
-    true
 }
 
 #[test]
@@ -355,25 +315,6 @@ fn walks_over_names_say_how_many_are_left_and_end(rt: HostRuntime) -> Result<(),
     holds(is_walked, "each step over names")
 }
 
-/// Returns `true` if a value has this text, or if there is neither.
-fn is_value(alloc: Global, value: Option<&Value>, text: &str) -> bool {
-    match value {
-        Some(value) => has_text(alloc, value, text),
-        None => text.is_empty(),
-    }
-}
-
-/// Returns `true` if a walk over values takes the steps.
-fn values_are_walked(alloc: Global, mut values: Values<'_>) -> bool {
-    for (left, _, text, then) in &STEPS {
-        let (before, value, after) = step_over_values(&mut values);
-        if before != *left || !is_value(alloc, value, text) || after != *then {
-            return false;
-        }
-    }
-    true
-}
-
 #[test]
 fn walks_over_values_say_how_many_are_left_and_end(rt: HostRuntime) -> Result<(), Fail> {
     let alloc = rt.alloc();
@@ -382,25 +323,6 @@ fn walks_over_values_say_how_many_are_left_and_end(rt: HostRuntime) -> Result<()
         None => false,
     };
     holds(is_walked, "each step over values")
-}
-
-/// Returns `true` if an owned entry has this name, or if there is neither.
-fn has_owned_name(entry: Option<(String, Value)>, wanted: Option<&str>) -> bool {
-    match entry {
-        Some((name, _)) => is_name(Some(&name), wanted),
-        None => wanted.is_none(),
-    }
-}
-
-/// Returns `true` if a walk over owned entries takes the steps.
-fn owned_entries_are_walked(mut owned: IntoIter) -> bool {
-    for (left, name, _, then) in &STEPS {
-        let (before, entry, after) = step_over_owned_entries(&mut owned);
-        if !has_owned_name(entry, *name) || before != *left || after != *then {
-            return false;
-        }
-    }
-    true
 }
 
 #[test]
