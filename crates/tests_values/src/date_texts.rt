@@ -1,5 +1,5 @@
 //! Texts of dates whose existence no contract states: errors, long outputs, and the form of mail over its years.
-use crate::grammar::push_times;
+use crate::texts::push_times;
 use liquid_dates::{Date, DateError, DateFormatError, DateTime};
 use std::alloc::Global;
 use std::test::Fail;
@@ -73,7 +73,7 @@ fn repeated(alloc: Global, text: &str, count: usize, end: &str) -> Option<String
 }
 
 /// Returns `true` if a text was printed and is this one.
-fn is_printed(printed: Result<String, DateFormatError>, text: &str) -> bool {
+pub(crate) fn is_printed(printed: Result<String, DateFormatError>, text: &str) -> bool {
     match printed {
         Ok(printed) => printed.as_str() == text,
         Err(_) => false,
@@ -139,7 +139,7 @@ fn moment_of(text: &str) -> Option<DateTime> {
 }
 
 /// Returns `true` if a mail form was made and is this one.
-fn is_mail(made: Result<String, DateError>, mail: &str) -> bool {
+pub(crate) fn is_mail(made: Result<String, DateError>, mail: &str) -> bool {
     match made {
         Ok(made) => made.as_str() == mail,
         Err(_) => false,
@@ -162,7 +162,7 @@ fn is_mailed(alloc: Global, row: &Line) -> bool {
 }
 
 /// Returns `true` if there is a moment, and it has no form for mail.
-fn has_no_form(alloc: Global, moment: Option<DateTime>) -> bool {
+pub(crate) fn has_no_form(alloc: Global, moment: Option<DateTime>) -> bool {
     match moment {
         Some(moment) => moment.to_rfc2822(alloc).err() == Some(DateError::NoRfc2822Form),
         None => false,

@@ -26,9 +26,9 @@ fn traced(alloc: Global) -> Error {
 fn has_traces(alloc: Global, error: Error) -> bool {
     let text = "liquid: a\n  with:\n    k=v\nfrom: b\n  with:\n    l=w\n    m=x\nfrom: c\n";
     prints(alloc, &error, text)
-        && !error.is_memory()
-        && error.place().is_none()
-        && error.source().is_none()
+        & !error.is_memory()
+        & error.place().is_none()
+        & error.source().is_none()
 }
 
 /// Returns `true` if an answer is an error.
@@ -54,7 +54,7 @@ const LATER: Place = Place { line: 3, column: 1 };
 
 /// Returns `true` if an error prints this text, and has the first place.
 fn is_placed(alloc: Global, error: Error, text: &str) -> bool {
-    prints(alloc, &error, text) && error.place() == Some(FIRST)
+    prints(alloc, &error, text) & (error.place() == Some(FIRST))
 }
 
 #[test]
@@ -67,7 +67,7 @@ fn errors_have_places(rt: HostRuntime) -> Result<(), Fail> {
 
 /// Returns `true` if an error is out of memory, and prints so.
 fn is_out_of_memory(alloc: Global, error: Error) -> bool {
-    error.is_memory() && prints(alloc, &error, "liquid: out of memory\n")
+    error.is_memory() & prints(alloc, &error, "liquid: out of memory\n")
 }
 
 #[test]
@@ -165,7 +165,7 @@ fn cause_prints(alloc: Global, error: &Error, text: &str) -> bool {
 fn shows(alloc: Global, answer: liquid_error::Result<u8>, text: &str, cause: &str) -> bool {
     match answer {
         Ok(_) => false,
-        Err(error) => prints(alloc, &error, text) && cause_prints(alloc, &error, cause),
+        Err(error) => prints(alloc, &error, text) & cause_prints(alloc, &error, cause),
     }
 }
 
@@ -274,7 +274,7 @@ fn is_left_alone(alloc: Global) -> bool {
         calls = 1;
         made(alloc)
     });
-    matches!(traced, Ok(7)) && calls == 0
+    matches!(traced, Ok(7)) & (calls == 0)
 }
 
 #[test]

@@ -2,11 +2,14 @@
 mod elements;
 mod parts;
 mod symbols;
+mod told;
 
+use crate::grammar::told::{kind_told, told};
+use crate::texts::push_times;
 use liquid_grammar::{
-    Element, Fault, FaultKind, Literal, TokenKind, chain_kind, integer_of, match_argument,
-    match_chain, match_expression, match_filter, match_identifier, match_index, match_literal,
-    match_tag, match_token, match_value, match_variable, match_white, next_element, token_kind,
+    Element, Fault, FaultKind, TokenKind, chain_kind, integer_of, match_argument, match_chain,
+    match_expression, match_filter, match_identifier, match_index, match_literal, match_tag,
+    match_token, match_value, match_variable, match_white, next_element, token_kind,
 };
 use std::alloc::Global;
 use std::test::Fail;
@@ -199,32 +202,6 @@ const CHAIN_KINDS: &str = r#"["a }}", "identifier", "a"]
 ["1 }}", "integer", "1"]
 ["(1..a)"]"#;
 
-/// Returns a literal's kind and its text, as the tables name them.
-fn told<'a>(literal: Literal<'a>) -> (&'a str, &'a str) {
-    match literal {
-        Literal::Nil => ("nil", ""),
-        Literal::Empty => ("empty", ""),
-        Literal::Blank => ("blank", ""),
-        Literal::Truth(true) => ("true", ""),
-        Literal::Truth(false) => ("false", ""),
-        Literal::Text(text) => ("text", text),
-        Literal::Integer(text) => ("integer", text),
-        Literal::Decimal(text) => ("decimal", text),
-    }
-}
-
-/// Returns the kind of a token or chain, and its text, as the tables name them.
-fn kind_told<'a>(kind: TokenKind<'a>) -> (&'a str, &'a str) {
-    match kind {
-        TokenKind::Identifier(name) => ("identifier", name),
-        TokenKind::Literal(literal) => told(literal),
-        TokenKind::Variable => ("variable", ""),
-        TokenKind::Filtered => ("filtered", ""),
-        TokenKind::Range => ("range", ""),
-        TokenKind::Symbol => ("symbol", ""),
-    }
-}
-
 /// Returns the two texts of a row after its first, if it has them.
 fn pair(row: &Line) -> Option<(&str, &str)> {
     row.text(1).zip(row.text(2))
@@ -307,16 +284,6 @@ fn whole_numbers_of_64_bits_are_numbers(_rt: HostRuntime) -> Result<(), Fail> {
     )
 }
 
-/// Adds a part that many times to a text, and returns `true` if memory doesn't run out.
-pub(crate) fn push_times(text: &mut String, part: &str, times: usize) -> bool {
-    for _ in 0..times {
-        if text.push_str(part).is_err() {
-            return false;
-        }
-    }
-    true
-}
-
 /// Adds a text, a name after a hundred brackets, and as many brackets that end as this says, and returns `true` if memory
 /// doesn't run out.
 fn push_brackets(whole: &mut String, start: &str, ends: usize) -> bool {
@@ -326,13 +293,15 @@ fn push_brackets(whole: &mut String, start: &str, ends: usize) -> bool {
         && push_times(whole, "]", ends)
 }
 
+/// Returns `true` if a value leaves nothing of a hundred brackets.
+fn brackets_are_matched(alloc: Global) -> bool {
+    let mut whole = String::new(alloc);
+    push_brackets(&mut whole, "", 100) & leaves("value", whole.as_str(), Some(""))
+}
+
 #[test]
 fn a_hundred_brackets(rt: HostRuntime) -> Result<(), Fail> {
-    let mut whole = String::new(rt.alloc());
-    holds(
-        push_brackets(&mut whole, "", 100) && leaves("value", whole.as_str(), Some("")),
-        "a hundred brackets",
-    )
+    holds(brackets_are_matched(rt.alloc()), "a hundred brackets")
 }
 
 /// Returns `true` if the second of a text's brackets is too deep.
@@ -345,22 +314,29 @@ fn is_too_deep(text: &str) -> bool {
     }
 }
 
+/// Returns `true` if one bracket more is too deep.
+fn one_more_is_too_deep(alloc: Global) -> bool {
+    let mut deeper = String::new(alloc);
+    push_brackets(&mut deeper, "b[", 101) & is_too_deep(deeper.as_str())
+}
+
 #[test]
 fn one_bracket_more_is_too_deep(rt: HostRuntime) -> Result<(), Fail> {
-    let mut deeper = String::new(rt.alloc());
-    holds(
-        push_brackets(&mut deeper, "b[", 101) && is_too_deep(deeper.as_str()),
-        "one bracket more",
-    )
+    holds(one_more_is_too_deep(rt.alloc()), "one bracket more")
+}
+
+/// Returns `true` if a name leaves the many brackets after it.
+fn brackets_are_left(alloc: Global, brackets: usize) -> bool {
+    let mut text = String::new(alloc);
+    push_times(&mut text, "a", 1)
+        & push_times(&mut text, "[", brackets)
+        & leaves("value", text.as_str(), text.as_str().strip_prefix("a"))
 }
 
 #[test]
 fn a_million_brackets_are_left(rt: HostRuntime) -> Result<(), Fail> {
-    let mut text = String::new(rt.alloc());
     holds(
-        push_times(&mut text, "a", 1)
-            && push_times(&mut text, "[", 1_000_000)
-            && leaves("value", text.as_str(), text.as_str().strip_prefix("a")),
+        brackets_are_left(rt.alloc(), 1_000_000),
         "a million brackets",
     )
 }
@@ -373,13 +349,15 @@ fn are_raw(blanks: &str) -> bool {
     }
 }
 
+/// Returns `true` if blanks are one element.
+fn blanks_are_raw(alloc: Global) -> bool {
+    let mut blanks = String::new(alloc);
+    push_times(&mut blanks, " ", 1_000_000) & are_raw(blanks.as_str())
+}
+
 #[test]
 fn a_million_blanks_are_raw_text(rt: HostRuntime) -> Result<(), Fail> {
-    let mut blanks = String::new(rt.alloc());
-    holds(
-        push_times(&mut blanks, " ", 1_000_000) && are_raw(blanks.as_str()),
-        "a million blanks",
-    )
+    holds(blanks_are_raw(rt.alloc()), "a million blanks")
 }
 
 /// Returns `true` if each of a hundred thousand braces is an invalid element, and the last one raw text.
@@ -394,11 +372,13 @@ fn are_invalid(braces: &str) -> bool {
     next_element(rest) == Some((Element::Raw("{"), ""))
 }
 
+/// Returns `true` if braces are invalid elements.
+fn braces_are_invalid(alloc: Global) -> bool {
+    let mut braces = String::new(alloc);
+    push_times(&mut braces, "{", 100_000) & are_invalid(braces.as_str())
+}
+
 #[test]
 fn a_hundred_thousand_braces_are_invalid(rt: HostRuntime) -> Result<(), Fail> {
-    let mut braces = String::new(rt.alloc());
-    holds(
-        push_times(&mut braces, "{", 100_000) && are_invalid(braces.as_str()),
-        "a hundred thousand braces",
-    )
+    holds(braces_are_invalid(rt.alloc()), "a hundred thousand braces")
 }

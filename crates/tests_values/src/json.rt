@@ -1,5 +1,5 @@
 //! JSON as values, and values as JSON.
-use crate::grammar::push_times;
+use crate::texts::{is_count, push_times};
 use crate::value::value_in;
 use liquid_error::{Error, Result};
 use liquid_json::{
@@ -166,7 +166,7 @@ const READ: &str =
 fn is_read_as(alloc: Global, text: &str, wanted: &str) -> bool {
     match object_from_str(alloc, text) {
         Ok(object) => object_is_told(alloc, object, wanted),
-        Err(error) => !error.is_memory() && wanted == "no JSON",
+        Err(error) => !error.is_memory() & (wanted == "no JSON"),
     }
 }
 
@@ -188,7 +188,7 @@ fn push_nested(text: &mut String, arrays: usize) -> bool {
 /// Returns `true` if an object of that many nested arrays is read as a text.
 fn is_nested_as(alloc: Global, arrays: usize, wanted: &str) -> bool {
     let mut text = String::new(alloc);
-    push_nested(&mut text, arrays) && is_read_as(alloc, text.as_str(), wanted)
+    push_nested(&mut text, arrays) & is_read_as(alloc, text.as_str(), wanted)
 }
 
 // With 126 arrays in an object, 127 are nested, and `serde_json` reads no more.
@@ -215,14 +215,6 @@ const NO_JSON: &str = r#"["ends too soon", 1, 0, ""]
 ["is wrong", 1, 2, "{a: 1}"]
 ["is wrong", 2, 8, "{\n  \"a\": x}"]
 ["is wrong", 3, 1, "[1.5,\n2\n}"]"#;
-
-/// Returns `true` if a count is this number.
-fn is_count(count: usize, number: Option<i64>) -> bool {
-    match i64::try_from(count) {
-        Ok(count) => number == Some(count),
-        Err(_) => false,
-    }
-}
 
 /// Returns `true` if an error has the kind and the place of the row.
 fn is_at(error: &JsonError, row: &Line) -> bool {
@@ -292,13 +284,20 @@ const ALL: &str =
 const ALL_SHOWN: &str =
     r#"[-5,null,null,"2016-02-16","2016-02-16 10:00:00 +0100",{"n":"a","t":true}]"#;
 
+/// Returns `true` if there is a value and it is shown as this JSON.
+fn value_is_shown(alloc: Global, value: Option<Value>, json: &str) -> bool {
+    match value {
+        Some(value) => is_text(shown(alloc, &value), json),
+        None => false,
+    }
+}
+
 #[test]
 fn values_are_shown(rt: HostRuntime) -> std::result::Result<(), Fail> {
     let alloc = rt.alloc();
     rows_hold(alloc, TEXTS, text_is_shown)?;
-    let are_shown = match value_in(alloc, ALL) {
-        Some(value) => is_text(shown(alloc, &value), ALL_SHOWN),
-        None => false,
-    };
-    holds(are_shown, "values of all kinds")
+    holds(
+        value_is_shown(alloc, value_in(alloc, ALL), ALL_SHOWN),
+        "values of all kinds",
+    )
 }

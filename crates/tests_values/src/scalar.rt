@@ -1,5 +1,6 @@
 //! Scalars with their texts, their conversions, and what they are compared with.
-use crate::value::{day, is_kstr, moment, name_of};
+use crate::texts::is_kstr;
+use crate::value::{day, moment, name_of};
 use liquid_dates::{Date, DateTime};
 use liquid_scalar::{Scalar, ScalarCow};
 use serde_json::Value as Json;
@@ -172,14 +173,13 @@ fn displays(alloc: Global, scalar: &ScalarCow<'_>, render: &str, source: &str, k
 
 /// Returns `true` if a scalar renders, shows its source, names its type, and is its text.
 fn is_shown(alloc: Global, scalar: ScalarCow<'_>, render: &str, source: &str, kind: &str) -> bool {
-    displays(alloc, &scalar, render, source, kind) && is_kstr(scalar.into_cow_str(alloc), render)
+    displays(alloc, &scalar, render, source, kind) & is_kstr(scalar.into_cow_str(alloc), render)
 }
 
 /// Returns `true` if a number, a truth value and a text are shown.
 fn scalars_are_shown(alloc: Global) -> bool {
-    let (number, lie) = (ScalarCow::new(-12i32), ScalarCow::new(false));
-    is_shown(alloc, number, "-12", "-12", "whole number")
-        && is_shown(alloc, lie, "false", "false", "boolean")
+    is_shown(alloc, ScalarCow::new(-12i32), "-12", "-12", "whole number")
+        && is_shown(alloc, ScalarCow::new(false), "false", "false", "boolean")
         && is_shown(alloc, ScalarCow::new("a\"b"), "a\"b", "\"a\"b\"", "string")
 }
 
@@ -191,7 +191,7 @@ fn renders_and_sources(rt: HostRuntime) -> Result<(), Fail> {
 /// Returns `true` if a copy of a scalar is the same and has the same hash.
 fn has_a_copy(scalar: &Scalar) -> bool {
     match scalar.clone() {
-        Ok(copy) => copy == *scalar && hash_of(&copy) == hash_of(scalar),
+        Ok(copy) => (copy == *scalar) & (hash_of(&copy) == hash_of(scalar)),
         Err(_) => false,
     }
 }
@@ -222,7 +222,7 @@ fn has_copies(alloc: Global, scalar: &Scalar, text: &str) -> bool {
 /// Returns `true` if a scalar was made, its copies are the same, and it becomes this text.
 fn is_owned(alloc: Global, made: Result<Scalar, AllocError>, text: &str) -> bool {
     match made {
-        Ok(scalar) => has_copies(alloc, &scalar, text) && is_kstr(scalar.into_cow_str(alloc), text),
+        Ok(scalar) => has_copies(alloc, &scalar, text) & is_kstr(scalar.into_cow_str(alloc), text),
         Err(_) => false,
     }
 }
@@ -247,8 +247,8 @@ fn is_borrowed(
     match copy {
         Ok(copy) => {
             is_strictly(borrowed, ScalarCow::new("k"))
-                && copy.scalar_eq(borrowed)
-                && is_moved(&copy, String::from_str(alloc, "k"))
+                & copy.scalar_eq(borrowed)
+                & is_moved(&copy, String::from_str(alloc, "k"))
         }
         Err(_) => false,
     }
@@ -301,9 +301,9 @@ fn dates_and_date_times_are_compared(rt: HostRuntime) -> Result<(), Fail> {
 
 /// Returns `true` if a scalar has this name of its type, and this text, by itself and as its string.
 fn is_dated(alloc: Global, scalar: ScalarCow<'_>, name: &str, text: &str) -> bool {
-    scalar.type_name() == name
-        && is_kstr(scalar.to_kstr(alloc), text)
-        && is_text(scalar.into_string(alloc), text)
+    (scalar.type_name() == name)
+        & is_kstr(scalar.to_kstr(alloc), text)
+        & is_text(scalar.into_string(alloc), text)
 }
 
 /// Returns a date, and the date time of the day before, at 10 of a clock that is an hour ahead.
@@ -314,10 +314,9 @@ fn dates() -> Option<(Date, DateTime)> {
     ))
 }
 
-#[test]
-fn dates_and_date_times_have_texts(rt: HostRuntime) -> Result<(), Fail> {
-    let alloc = rt.alloc();
-    let have_texts = match dates() {
+/// Returns `true` if a date and a date time have their texts.
+fn dates_have_texts(alloc: Global) -> bool {
+    match dates() {
         Some((date, moment)) => {
             is_dated(alloc, ScalarCow::new(date), "date", "2016-02-17")
                 && is_dated(
@@ -328,8 +327,12 @@ fn dates_and_date_times_have_texts(rt: HostRuntime) -> Result<(), Fail> {
                 )
         }
         None => false,
-    };
-    holds(have_texts, "a date and a date time")
+    }
+}
+
+#[test]
+fn dates_and_date_times_have_texts(rt: HostRuntime) -> Result<(), Fail> {
+    holds(dates_have_texts(rt.alloc()), "a date and a date time")
 }
 
 /// Returns the first moment of 13 June 2016.
@@ -377,13 +380,17 @@ fn is_moment(_alloc: Global, row: &Line) -> bool {
     }
 }
 
+/// Returns `true` if a number is no date.
+fn number_is_no_date() -> bool {
+    match june() {
+        Some(moment) => !has_date(ScalarCow::new(5i64), moment),
+        None => false,
+    }
+}
+
 #[test]
 fn scalars_convert_to_dates(rt: HostRuntime) -> Result<(), Fail> {
     rows_hold(rt.alloc(), DAYS, is_day)?;
     rows_hold(rt.alloc(), MOMENTS, is_moment)?;
-    let is_no_date = match june() {
-        Some(moment) => !has_date(ScalarCow::new(5i64), moment),
-        None => false,
-    };
-    holds(is_no_date, "a number is no date")
+    holds(number_is_no_date(), "a number is no date")
 }

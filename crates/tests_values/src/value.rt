@@ -6,33 +6,33 @@ mod texts;
 mod values;
 mod walks;
 
+use crate::texts::is_kstr;
 pub(crate) use comparisons::name_of;
 use liquid_dates::{Date, DateTime};
 use liquid_json::to_value;
 use liquid_value::{Array, Object, State, Value, ValueCow};
 use serde_json::{Map, Value as Json};
 use std::alloc::{AllocError, Global};
-use std::borrow::CowStr;
 use tests_lines::Line;
-
-/// Returns `true` if a text was made and is the one wanted, and `false` if memory ran out.
-pub(crate) fn is_kstr(found: Result<CowStr<'_>, AllocError>, wanted: &str) -> bool {
-    match found {
-        Ok(text) => text.as_str() == wanted,
-        Err(_) => false,
-    }
-}
 
 /// Returns `true` if a value has this text.
 pub(crate) fn has_text(alloc: Global, value: &Value, text: &str) -> bool {
     is_kstr(value.to_kstr(alloc), text)
 }
 
+/// Returns `true` if there is a value and it is this number.
+fn has_number(found: &Option<ValueCow<'_>>, number: i64) -> bool {
+    match found {
+        Some(found) => *found.as_view() == Value::scalar(number),
+        None => false,
+    }
+}
+
 /// Returns `true` if a value was found and is this number, and `false` if memory ran out.
 pub(crate) fn is_number(found: Result<Option<ValueCow<'_>>, AllocError>, number: i64) -> bool {
     match found {
-        Ok(Some(found)) => *found.as_view() == Value::scalar(number),
-        _ => false,
+        Ok(found) => has_number(&found, number),
+        Err(_) => false,
     }
 }
 

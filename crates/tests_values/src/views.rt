@@ -1,5 +1,6 @@
 //! Views of the types of a program: each is as the value that it means.
-use crate::value::{has_text, is_kstr, is_number};
+use crate::texts::is_kstr;
+use crate::value::{has_text, is_number};
 use liquid_dates::{Date, DateError, DateTime};
 use liquid_scalar::{Scalar, ScalarCow};
 use liquid_value::{Object, State, Value, ValueCow};
@@ -21,8 +22,7 @@ fn is_value(found: Result<ValueCow<'_>, AllocError>, value: &Value) -> bool {
     }
 }
 
-/// Returns `true` if a view's value was made and has this text and this name of its type, and is what the view borrows or
-/// copies.
+/// Returns `true` if a view's value was made with this text and this type, and is what the view borrows or copies.
 fn is_meant(
     alloc: Global,
     made: Result<Value, AllocError>,
@@ -32,7 +32,7 @@ fn is_meant(
 ) -> bool {
     match made {
         Ok(value) => {
-            has_text(alloc, &value, text) && value.type_name() == name && is_value(found, &value)
+            has_text(alloc, &value, text) & (value.type_name() == name) & is_value(found, &value)
         }
         Err(_) => false,
     }
@@ -164,18 +164,21 @@ fn dates() -> Result<(Date, DateTime), DateError> {
     Ok((day, DateTime::from_parts(day, 10, 0, 0, 0, 3600)?))
 }
 
-#[test]
-fn dates_and_date_times(rt: HostRuntime) -> Result<(), Fail> {
-    let alloc = rt.alloc();
+/// Returns `true` if a date and a date time of it are shown.
+fn dates_are_shown(alloc: Global) -> bool {
     let (date, text) = ("2016-02-16", "2016-02-16 10:00:00 +0100");
-    let are_shown = match dates() {
+    match dates() {
         Ok((day, moment)) => {
             is_shown(alloc, &day, date, date, "date")
                 && is_shown(alloc, &moment, text, text, "date time")
         }
         Err(_) => false,
-    };
-    holds(are_shown, "a date and a date time")
+    }
+}
+
+#[test]
+fn dates_and_date_times(rt: HostRuntime) -> Result<(), Fail> {
+    holds(dates_are_shown(rt.alloc()), "a date and a date time")
 }
 
 /// Returns the value of an array that is built of the items of a list.
@@ -196,9 +199,9 @@ fn is_a_list(alloc: Global, made: Result<Vec<i64>, AllocError>) -> bool {
     match made {
         Ok(list) => {
             is_shown(alloc, &list, "12", "[1, 2, ]", "array")
-                && list.is_array()
-                && !list.is_object()
-                && is_copied(alloc, &list)
+                & list.is_array()
+                & !list.is_object()
+                & is_copied(alloc, &list)
         }
         Err(_) => false,
     }
@@ -208,29 +211,19 @@ fn one_and_two(alloc: Global) -> Result<Vec<i64>, AllocError> {
     Ok(vec![in alloc; 1, 2]?)
 }
 
+/// Returns `true` if a list is shown, and an empty one is in the state for that.
+fn lists_are_shown(alloc: Global) -> bool {
+    let nothing: Vec<i64> = Vec::new(alloc);
+    is_a_list(alloc, one_and_two(alloc)) & nothing.query_state(State::Empty)
+}
+
 #[test]
 fn lists_are_arrays(rt: HostRuntime) -> Result<(), Fail> {
-    let alloc = rt.alloc();
-    let nothing: Vec<i64> = Vec::new(alloc);
-    holds(
-        is_a_list(alloc, one_and_two(alloc)) && nothing.query_state(State::Empty),
-        "a list, and an empty one",
-    )
+    holds(lists_are_shown(rt.alloc()), "a list, and an empty one")
 }
 
 fn first_ten(alloc: Global) -> Result<Vec<i64>, AllocError> {
     Ok(vec![in alloc; 0, 1, 2, 3, 4, 5, 6, 7, 8, 9]?)
-}
-
-/// Returns `true` if the ten items are there, and no index beyond them.
-fn has_ten_indexes(ten: &Vec<i64>) -> bool {
-    ten.size() == 10
-        && ArrayView::values(ten).len() == 10
-        && ten.contains_key(-10)
-        && !ten.contains_key(-11)
-        && ten.contains_key(9)
-        && !ten.contains_key(10)
-        && !ten.contains_key(i64::MIN)
 }
 
 /// Returns the number at an index, if there is one.
@@ -238,40 +231,52 @@ fn found(ten: &Vec<i64>, index: i64) -> Option<i64> {
     ArrayView::get(ten, index).copied()
 }
 
-/// Returns `true` if the ten items are at their indexes.
+/// Returns `true` if the ten items are at their indexes, and no index is beyond them.
 fn has_ten_items(ten: &Vec<i64>) -> bool {
-    found(ten, -1) == Some(9) && found(ten, -11).is_none() && found(ten, 3) == Some(3)
+    ten.size() == 10
+        && ArrayView::values(ten).len() == 10
+        && ten.contains_key(-10)
+        && !ten.contains_key(-11)
+        && ten.contains_key(9)
+        && !ten.contains_key(10)
+        && !ten.contains_key(i64::MIN)
+        && found(ten, -1) == Some(9)
+        && found(ten, -11).is_none()
+        && found(ten, 3) == Some(3)
+}
+
+/// Returns `true` if ten items were made and are at their indexes.
+fn has_ten(made: Result<Vec<i64>, AllocError>) -> bool {
+    match made {
+        Ok(ten) => has_ten_items(&ten),
+        Err(_) => false,
+    }
 }
 
 #[test]
 fn indexes_count_from_both_ends(rt: HostRuntime) -> Result<(), Fail> {
-    let has_ten = match first_ten(rt.alloc()) {
-        Ok(ten) => has_ten_indexes(&ten) && has_ten_items(&ten),
-        Err(_) => false,
-    };
-    holds(has_ten, "ten items at their indexes")
+    holds(has_ten(first_ten(rt.alloc())), "ten items at their indexes")
 }
 
-/// Returns `true` if the first and the last of ten items are found, the last through a reference too.
-fn has_ends(ten: &Vec<i64>) -> bool {
-    ArrayView::first(ten).copied() == Some(0)
-        && ArrayView::last(ten).copied() == Some(9)
-        && ArrayView::last(&ten).copied() == Some(9)
+/// Returns `true` if ten items were made, and the first and the last are found, the last through a reference too.
+fn has_ends(made: Result<Vec<i64>, AllocError>) -> bool {
+    match made {
+        Ok(ten) => {
+            (ArrayView::first(&ten).copied() == Some(0))
+                & (ArrayView::last(&ten).copied() == Some(9))
+                & (ArrayView::last(&&ten).copied() == Some(9))
+        }
+        Err(_) => false,
+    }
 }
 
 #[test]
 fn arrays_have_a_first_and_a_last_item(rt: HostRuntime) -> Result<(), Fail> {
-    let has_ends = match first_ten(rt.alloc()) {
-        Ok(ten) => has_ends(&ten),
-        Err(_) => false,
-    };
-    holds(has_ends, "the first and the last")
+    holds(has_ends(first_ten(rt.alloc())), "the first and the last")
 }
 
-type Names = BTreeMap<String, i64>;
-
 /// Puts a name into a map, and returns `true` if memory doesn't run out.
-fn add(alloc: Global, map: &mut Names, name: &str, number: i64) -> bool {
+fn add(alloc: Global, map: &mut BTreeMap<String, i64>, name: &str, number: i64) -> bool {
     match String::from_str(alloc, name) {
         Ok(name) => map.insert(name, number).is_ok(),
         Err(_) => false,
@@ -279,7 +284,7 @@ fn add(alloc: Global, map: &mut Names, name: &str, number: i64) -> bool {
 }
 
 /// Puts two names into a map, and returns `true` if memory doesn't run out.
-fn add_two(alloc: Global, map: &mut Names) -> bool {
+fn add_two(alloc: Global, map: &mut BTreeMap<String, i64>) -> bool {
     add(alloc, map, "b", 2) && add(alloc, map, "a", 1)
 }
 
@@ -290,14 +295,15 @@ fn object_is_shown<O: ObjectView>(alloc: Global, object: &O, render: &str, sourc
         && is_text(ObjectSource::new(object).to_string(alloc), source)
 }
 
+/// Returns `true` if a map of two names is shown as an object.
+fn map_is_shown(alloc: Global) -> bool {
+    let mut map: BTreeMap<String, i64> = BTreeMap::new(alloc);
+    add_two(alloc, &mut map) & object_is_shown(alloc, &map, "a1b2", "{\"a\": 1, \"b\": 2, }")
+}
+
 #[test]
 fn maps_are_objects(rt: HostRuntime) -> Result<(), Fail> {
-    let alloc = rt.alloc();
-    let mut map: Names = BTreeMap::new(alloc);
-    holds(
-        add_two(alloc, &mut map) && object_is_shown(alloc, &map, "a1b2", "{\"a\": 1, \"b\": 2, }"),
-        "a map is shown",
-    )
+    holds(map_is_shown(rt.alloc()), "a map is shown")
 }
 
 /// Returns `true` if the object finds this number under a name, and nothing under another.
@@ -316,21 +322,18 @@ fn are_names(found: Result<Vec<&str>, AllocError>, names: &[&str]) -> bool {
     }
 }
 
-/// Returns `true` if a map has two names.
-fn has_two_names(alloc: Global, map: &Names) -> bool {
-    map.size() == 2
-        && finds(alloc, map, "b", 2, "c")
-        && are_names(ObjectView::keys(map, alloc), &["a", "b"])
+/// Returns `true` if a map finds its two names.
+fn has_two_names(alloc: Global) -> bool {
+    let mut map: BTreeMap<String, i64> = BTreeMap::new(alloc);
+    add_two(alloc, &mut map)
+        & (map.size() == 2)
+        & finds(alloc, &map, "b", 2, "c")
+        & are_names(ObjectView::keys(&map, alloc), &["a", "b"])
 }
 
 #[test]
 fn maps_find_their_names(rt: HostRuntime) -> Result<(), Fail> {
-    let alloc = rt.alloc();
-    let mut map: Names = BTreeMap::new(alloc);
-    holds(
-        add_two(alloc, &mut map) && has_two_names(alloc, &map),
-        "two names in their order",
-    )
+    holds(has_two_names(rt.alloc()), "two names in their order")
 }
 
 /// Returns `true` if an object has the later one of the values of `a`, and a reference finds its names.
@@ -338,7 +341,7 @@ fn has_later_value(alloc: Global, made: Result<Object, AllocError>) -> bool {
     match made {
         Ok(object) => {
             is_shown(alloc, &object, "a3b2", "{\"a\": 3, \"b\": 2, }", "object")
-                && ObjectView::contains_key(&&object, "b")
+                & ObjectView::contains_key(&&object, "b")
         }
         Err(_) => false,
     }
@@ -347,14 +350,12 @@ fn has_later_value(alloc: Global, made: Result<Object, AllocError>) -> bool {
 #[test]
 fn later_pairs_win(rt: HostRuntime) -> Result<(), Fail> {
     let alloc = rt.alloc();
-    let made = object_of(alloc, &[("a", 1i64), ("b", 2), ("a", 3)]);
-    holds(has_later_value(alloc, made), "the later value")
+    let object = object_of(alloc, &[("a", 1i64), ("b", 2), ("a", 3)]);
+    holds(has_later_value(alloc, object), "the later value")
 }
 
-type Hashed = HashMap<String, i64>;
-
 /// Puts a name into a map without order, and returns `true` if memory doesn't run out.
-fn add_hashed(alloc: Global, map: &mut Hashed, name: &str, number: i64) -> bool {
+fn add_hashed(alloc: Global, map: &mut HashMap<String, i64>, name: &str, number: i64) -> bool {
     match String::from_str(alloc, name) {
         Ok(name) => map.insert(name, number).is_ok(),
         Err(_) => false,
@@ -362,38 +363,36 @@ fn add_hashed(alloc: Global, map: &mut Hashed, name: &str, number: i64) -> bool 
 }
 
 /// Puts three names into a map without order, and returns `true` if memory doesn't run out.
-fn add_three(alloc: Global, map: &mut Hashed) -> bool {
+fn add_three(alloc: Global, map: &mut HashMap<String, i64>) -> bool {
     add_hashed(alloc, map, "b", 2)
         && add_hashed(alloc, map, "c", 3)
         && add_hashed(alloc, map, "a", 1)
 }
 
-#[test]
-fn maps_without_order_are_told_by_name(rt: HostRuntime) -> Result<(), Fail> {
-    let alloc = rt.alloc();
+/// Returns `true` if a map without order is shown, empty and with three names.
+fn hashed_is_shown(alloc: Global) -> bool {
     let source = "{\"a\": 1, \"b\": 2, \"c\": 3, }";
-    let mut map: Hashed = HashMap::new(alloc);
-    holds(
-        is_shown(alloc, &map, "", "{}", "object")
-            && add_three(alloc, &mut map)
-            && is_shown(alloc, &map, "a1b2c3", source, "object"),
-        "an empty map, and three names",
-    )
+    let mut map: HashMap<String, i64> = HashMap::new(alloc);
+    is_shown(alloc, &map, "", "{}", "object")
+        & add_three(alloc, &mut map)
+        & is_shown(alloc, &map, "a1b2c3", source, "object")
 }
 
-/// Returns `true` if a map has three names.
-fn has_three_names(alloc: Global, map: &Hashed) -> bool {
-    map.size() == 3
-        && finds(alloc, map, "c", 3, "d")
-        && are_names(ObjectView::keys(map, alloc), &["a", "b", "c"])
+#[test]
+fn maps_without_order_are_told_by_name(rt: HostRuntime) -> Result<(), Fail> {
+    holds(hashed_is_shown(rt.alloc()), "an empty map, and three names")
+}
+
+/// Returns `true` if a map without order finds its three names.
+fn has_three_names(alloc: Global) -> bool {
+    let mut map: HashMap<String, i64> = HashMap::new(alloc);
+    add_three(alloc, &mut map)
+        & (map.size() == 3)
+        & finds(alloc, &map, "c", 3, "d")
+        & are_names(ObjectView::keys(&map, alloc), &["a", "b", "c"])
 }
 
 #[test]
 fn maps_without_order_find_their_names(rt: HostRuntime) -> Result<(), Fail> {
-    let alloc = rt.alloc();
-    let mut map: Hashed = HashMap::new(alloc);
-    holds(
-        add_three(alloc, &mut map) && has_three_names(alloc, &map),
-        "three names in their order",
-    )
+    holds(has_three_names(rt.alloc()), "three names in their order")
 }

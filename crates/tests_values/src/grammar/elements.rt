@@ -1,4 +1,5 @@
 //! Texts with the elements that the written rules give them, and places.
+use crate::texts::is_count;
 use liquid_grammar::{
     ChainText, Element, Fault, FaultKind, TagText, TokenKind, line_and_column, next_element,
 };
@@ -115,14 +116,6 @@ const PLACES: &str = r#"["", 1, 1]
 ["ab", 1, 3]
 ["a\n", 2, 1]
 ["a\r\n\né漢\ud83d\ude00b", 3, 5]"#;
-
-/// Returns `true` if a count is this number.
-fn is_count(count: usize, number: Option<i64>) -> bool {
-    match i64::try_from(count) {
-        Ok(count) => number == Some(count),
-        Err(_) => false,
-    }
-}
 
 /// Returns `true` if a line and a column are those of the row.
 fn is_at((line, column): (usize, usize), row: &Line) -> bool {

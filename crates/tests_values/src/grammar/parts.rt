@@ -1,5 +1,5 @@
 //! The parts that each walk over a matched text returns.
-use super::told;
+use super::told::told;
 use liquid_grammar::{
     ArgumentStart, ChainStep, FilterStart, Head, IndexStart, Literal, TokenKind, TokenParts,
     TokenText, chain_step, close_bracket, expression_end, expression_start, next_argument,

@@ -1,5 +1,6 @@
 //! Symbols side by side: which of them is the longest.
-use super::{leaves, push_times};
+use super::leaves;
+use crate::texts::push_times;
 use serde_json::Value as Json;
 use std::alloc::Global;
 use std::test::Fail;
@@ -24,8 +25,8 @@ const LONG_FIRST: &str = r#"["<=", ["<=", ">=", "==", "!=", "<>", "<", ">", "=",
 fn is_after_symbol(alloc: Global, first: &str, second: &str, rest: &str) -> bool {
     let mut text = String::new(alloc);
     push_times(&mut text, first, 1)
-        && push_times(&mut text, second, 1)
-        && leaves("token", text.as_str(), Some(rest))
+        & push_times(&mut text, second, 1)
+        & leaves("token", text.as_str(), Some(rest))
 }
 
 /// Returns the text at a place of a list, or `None` if there is no text.

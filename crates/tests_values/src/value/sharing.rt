@@ -25,18 +25,27 @@ fn object(alloc: Global) -> Option<Value> {
     }
 }
 
+/// Puts 2 after the items of an array, and returns `true` if memory doesn't run out.
+pub(super) fn push_two(items: &mut SharedArray) -> bool {
+    match SharedArray::to_mut(items) {
+        Ok(items) => push(items, Some(Value::scalar(2i64))),
+        Err(_) => false,
+    }
+}
+
+/// Sets the member `b` of an object to 2, and returns `true` if memory doesn't run out.
+pub(super) fn insert_two(alloc: Global, members: &mut SharedObject) -> bool {
+    match SharedObject::to_mut(members) {
+        Ok(members) => insert(alloc, members, "b", Some(Value::scalar(2i64))),
+        Err(_) => false,
+    }
+}
+
 /// Writes 2 after the items, or as the member `b`, and returns `true` if it could be written.
 fn write(alloc: Global, value: &mut Value) -> bool {
-    let two = Some(Value::scalar(2i64));
     match value {
-        Value::Array(items) => match SharedArray::to_mut(items) {
-            Ok(items) => push(items, two),
-            Err(_) => false,
-        },
-        Value::Object(members) => match SharedObject::to_mut(members) {
-            Ok(members) => insert(alloc, members, "b", two),
-            Err(_) => false,
-        },
+        Value::Array(items) => push_two(items),
+        Value::Object(members) => insert_two(alloc, members),
         _ => false,
     }
 }
@@ -73,7 +82,7 @@ fn shares_with_copy(alloc: Global, first: &mut Value, before: &str, after: &str)
 fn shares(alloc: Global, value: Option<Value>, before: &str, after: &str) -> bool {
     match value {
         Some(mut first) => {
-            is_alone(&mut first) && shares_with_copy(alloc, &mut first, before, after)
+            is_alone(&mut first) & shares_with_copy(alloc, &mut first, before, after)
         }
         None => false,
     }
@@ -82,66 +91,45 @@ fn shares(alloc: Global, value: Option<Value>, before: &str, after: &str) -> boo
 #[test]
 fn a_write_leaves_the_other_owner_as_it_was(rt: HostRuntime) -> Result<(), Fail> {
     let alloc = rt.alloc();
-    holds(shares(alloc, array(alloc), "1", "12"), "an array")?;
-    holds(shares(alloc, object(alloc), "a1", "a1b2"), "an object")
+    holds(
+        shares(alloc, array(alloc), "1", "12") && shares(alloc, object(alloc), "a1", "a1b2"),
+        "the value that is written to, and the other one",
+    )
 }
 
-/// Returns the items of a copy of an array.
-fn taken_array(value: &Value) -> Option<Array> {
+/// Returns the value of the items of a copy of an array.
+fn taken_items(items: &SharedArray) -> Option<Value> {
+    let copy = SharedArray::clone(items).ok()?;
+    Some(Value::from(SharedArray::into_array(copy).ok()?))
+}
+
+/// Returns the value of the members of a copy of an object.
+fn taken_members(members: &SharedObject) -> Option<Value> {
+    let copy = SharedObject::clone(members).ok()?;
+    Some(Value::from(SharedObject::into_object(copy).ok()?))
+}
+
+/// Returns a value of what is taken from a copy of an array or an object.
+fn taken(value: &Value) -> Option<Value> {
     match value {
-        Value::Array(items) => match SharedArray::clone(items) {
-            Ok(copy) => SharedArray::into_array(copy).ok(),
-            Err(_) => None,
-        },
+        Value::Array(items) => taken_items(items),
+        Value::Object(members) => taken_members(members),
         _ => None,
     }
 }
 
-/// Returns the members of a copy of an object.
-fn taken_object(value: &Value) -> Option<Object> {
+/// Returns `true` if there is a value, and it has this text after a write to it.
+fn is_changed(alloc: Global, value: Option<Value>, after: &str) -> bool {
     match value {
-        Value::Object(members) => match SharedObject::clone(members) {
-            Ok(copy) => SharedObject::into_object(copy).ok(),
-            Err(_) => None,
-        },
-        _ => None,
-    }
-}
-
-/// Returns `true` if 2 can be put after the items that are taken from an array.
-fn is_longer(alloc: Global, taken: Option<Array>) -> bool {
-    match taken {
-        Some(mut items) => {
-            push(&mut items, Some(Value::scalar(2i64)))
-                && has_text(alloc, &Value::from(items), "12")
-        }
+        Some(mut value) => write(alloc, &mut value) & has_text(alloc, &value, after),
         None => false,
     }
 }
 
-/// Returns `true` if the member `b` can be put into the members that are taken from an object.
-fn is_larger(alloc: Global, taken: Option<Object>) -> bool {
-    match taken {
-        Some(mut members) => {
-            insert(alloc, &mut members, "b", Some(Value::scalar(2i64)))
-                && has_text(alloc, &Value::from(members), "a1b2")
-        }
-        None => false,
-    }
-}
-
-/// Returns `true` if the items can be taken while another value shares them, which keeps them.
-fn array_is_taken(alloc: Global, array: Option<Value>) -> bool {
-    match array {
-        Some(array) => is_longer(alloc, taken_array(&array)) && has_text(alloc, &array, "1"),
-        None => false,
-    }
-}
-
-/// Returns `true` if the members can be taken while another value shares them, which keeps them.
-fn object_is_taken(alloc: Global, object: Option<Value>) -> bool {
-    match object {
-        Some(object) => is_larger(alloc, taken_object(&object)) && has_text(alloc, &object, "a1"),
+/// Returns `true` if what a value holds can be taken and changed while the value shares it, which keeps it.
+fn is_kept(alloc: Global, value: Option<Value>, before: &str, after: &str) -> bool {
+    match value {
+        Some(value) => { is_changed(alloc, taken(&value), after) & has_text(alloc, &value, before) }
         None => false,
     }
 }
@@ -150,7 +138,7 @@ fn object_is_taken(alloc: Global, object: Option<Value>) -> bool {
 fn what_is_taken_is_a_copy_where_it_is_shared(rt: HostRuntime) -> Result<(), Fail> {
     let alloc = rt.alloc();
     holds(
-        array_is_taken(alloc, array(alloc)) && object_is_taken(alloc, object(alloc)),
+        is_kept(alloc, array(alloc), "1", "12") && is_kept(alloc, object(alloc), "a1", "a1b2"),
         "what is taken, and what is kept",
     )
 }

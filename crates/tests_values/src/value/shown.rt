@@ -1,7 +1,8 @@
 //! The two texts of values that hold nil and states, by every type that displays them.
 ghost use Rattle.std.specs.Prelude.{string_bytes, refl};
 
-use super::{is_kstr, is_number, value_at};
+use super::{is_number, value_at};
+use crate::texts::is_kstr;
 use liquid_value::render::{ValueRender, ValueSource};
 use liquid_value::{State, Value};
 use liquid_views::{ObjectIndex, ObjectRender, ObjectSource, ObjectView, ValueView};
@@ -68,8 +69,8 @@ fn all_show(alloc: Global, value: Option<Value>, render: &str, source: &str) -> 
     match value {
         Some(value) => {
             lent_shows(alloc, &value, render, source)
-                && value_is_displayed(alloc, &value, render, source)
-                && held_object_shows(alloc, &value, render, source)
+                & value_is_displayed(alloc, &value, render, source)
+                & held_object_shows(alloc, &value, render, source)
         }
         None => false,
     }
@@ -117,14 +118,18 @@ fn list_is_shown(alloc: Global) -> bool {
     }
 }
 
+/// Returns `true` if a state and an absent one are shown.
+fn states_are_shown(alloc: Global) -> bool {
+    let absent: Option<State> = None;
+    shows(alloc, &Some(State::Empty), "", "empty") && shows(alloc, &absent, "", "nil")
+}
+
 #[test]
 fn views_show_what_is_absent(rt: HostRuntime) -> Result<(), Fail> {
     let alloc = rt.alloc();
-    let absent: Option<State> = None;
-    holds(list_is_shown(alloc), "a list")?;
     holds(
-        shows(alloc, &Some(State::Empty), "", "empty") && shows(alloc, &absent, "", "nil"),
-        "states",
+        list_is_shown(alloc) && states_are_shown(alloc),
+        "a list and states",
     )
 }
 
@@ -165,14 +170,15 @@ fn names_are_shown(alloc: Global, names: &Named) -> bool {
         && is_number(names.lookup(alloc, "b"), 2)
 }
 
+/// Returns `true` if a map shows names of a program's own type.
+fn shows_own_names(alloc: Global) -> bool {
+    let mut names: Named = BTreeMap::new(alloc);
+    add_names(alloc, &mut names) & names_are_shown(alloc, &names)
+}
+
 #[test]
 fn maps_show_what_is_absent(rt: HostRuntime) -> Result<(), Fail> {
-    let alloc = rt.alloc();
-    let mut names: Named = BTreeMap::new(alloc);
-    holds(
-        add_names(alloc, &mut names) && names_are_shown(alloc, &names),
-        "names of a program's own type",
-    )
+    holds(shows_own_names(rt.alloc()), "names of a program's own type")
 }
 
 type Hashed = HashMap<String, Option<i64>>;
@@ -195,12 +201,13 @@ fn add_hashed(alloc: Global, names: &mut Hashed) -> bool {
     true
 }
 
+/// Returns `true` if a map without order shows its names.
+fn shows_hashed_names(alloc: Global) -> bool {
+    let mut names: Hashed = HashMap::new(alloc);
+    add_hashed(alloc, &mut names) & shows_names(alloc, &names)
+}
+
 #[test]
 fn maps_without_order_show_what_is_absent(rt: HostRuntime) -> Result<(), Fail> {
-    let alloc = rt.alloc();
-    let mut hashed: Hashed = HashMap::new(alloc);
-    holds(
-        add_hashed(alloc, &mut hashed) && shows_names(alloc, &hashed),
-        "names without order",
-    )
+    holds(shows_hashed_names(rt.alloc()), "names without order")
 }

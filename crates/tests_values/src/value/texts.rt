@@ -23,7 +23,7 @@ const TEXTS: &str = r#"["1", "1", "whole number", 1]
 fn is_displayed(alloc: Global, value: Option<Value>, render: &str, source: &str) -> bool {
     match value {
         Some(value) => {
-            value_is_displayed(alloc, &value, render, source) && has_text(alloc, &value, render)
+            value_is_displayed(alloc, &value, render, source) & has_text(alloc, &value, render)
         }
         None => false,
     }

@@ -1,8 +1,9 @@
 //! What values contain, what they are made from, and walks over objects.
+use super::sharing::{insert_two, push_two};
 use super::walks::{
     entries_are_walked, names_are_walked, owned_entries_are_walked, values_are_walked,
 };
-use super::{has_text, insert, push, value_at, value_in};
+use super::{has_text, insert, value_at, value_in};
 use liquid_scalar::Scalar;
 use liquid_value::{Array, Object, State, Value, ValueCow};
 use std::alloc::{AllocError, Global};
@@ -47,16 +48,16 @@ fn gives(value: &Value, kind: &str) -> bool {
 /// Returns `true` if a value lends what it contains if it is of this kind, and nothing if it isn't.
 fn lends(value: &mut Value, kind: &str) -> bool {
     let (is_array, is_object) = (kind == "array", kind == "object");
-    value.as_array().is_some() == is_array
-        && value.as_object().is_some() == is_object
-        && value.as_array_mut().is_some() == is_array
-        && value.as_object_mut().is_some() == is_object
+    (value.as_array().is_some() == is_array)
+        & (value.as_object().is_some() == is_object)
+        & (value.as_array_mut().is_some() == is_array)
+        & (value.as_object_mut().is_some() == is_object)
 }
 
 /// Returns `true` if there is a value, and it lends and gives what a value of this kind does.
 fn is_kind(value: Option<Value>, kind: &str) -> bool {
     match value {
-        Some(mut value) => lends(&mut value, kind) && gives(&value, kind),
+        Some(mut value) => lends(&mut value, kind) & gives(&value, kind),
         None => false,
     }
 }
@@ -73,13 +74,18 @@ fn values_give_what_they_hold(rt: HostRuntime) -> Result<(), Fail> {
     rows_hold(rt.alloc(), PARTS, is_of_kind)
 }
 
-/// Puts 2 after the items of an array, and returns `true` if it could be put there.
-fn push_two(array: &mut Value) -> bool {
-    match array.as_array_mut() {
-        Some(items) => match items.to_mut() {
-            Ok(items) => push(items, Some(Value::scalar(2i64))),
-            Err(_) => false,
-        },
+/// Returns `true` if there is a value, and an item that is put into the array that it lends changes its text to this one.
+fn array_changes(alloc: Global, value: Option<Value>, after: &str) -> bool {
+    match value {
+        Some(mut value) => lent_array_changes(&mut value) & has_text(alloc, &value, after),
+        None => false,
+    }
+}
+
+/// Puts 2 after the items of the array that a value lends, and returns `true` if it could be put there.
+fn lent_array_changes(value: &mut Value) -> bool {
+    match value.as_array_mut() {
+        Some(items) => push_two(items),
         None => false,
     }
 }
@@ -87,20 +93,24 @@ fn push_two(array: &mut Value) -> bool {
 #[test]
 fn arrays_change_in_place(rt: HostRuntime) -> Result<(), Fail> {
     let alloc = rt.alloc();
-    let is_changed = match value_in(alloc, "[1]") {
-        Some(mut array) => push_two(&mut array) && has_text(alloc, &array, "12"),
-        None => false,
-    };
-    holds(is_changed, "an item more")
+    holds(
+        array_changes(alloc, value_in(alloc, "[1]"), "12"),
+        "an item more",
+    )
 }
 
-/// Sets the member `b` of an object to 2, and returns `true` if it could be set.
-fn insert_two(alloc: Global, object: &mut Value) -> bool {
-    match object.as_object_mut() {
-        Some(members) => match members.to_mut() {
-            Ok(members) => insert(alloc, members, "b", Some(Value::scalar(2i64))),
-            Err(_) => false,
-        },
+/// Returns `true` if there is a value, and a member that is put into the object that it lends changes its text to this one.
+fn object_changes(alloc: Global, value: Option<Value>, after: &str) -> bool {
+    match value {
+        Some(mut value) => lent_object_changes(alloc, &mut value) & has_text(alloc, &value, after),
+        None => false,
+    }
+}
+
+/// Sets the member `b` of the object that a value lends to 2, and returns `true` if it could be set.
+fn lent_object_changes(alloc: Global, value: &mut Value) -> bool {
+    match value.as_object_mut() {
+        Some(members) => insert_two(alloc, members),
         None => false,
     }
 }
@@ -108,11 +118,10 @@ fn insert_two(alloc: Global, object: &mut Value) -> bool {
 #[test]
 fn objects_change_in_place(rt: HostRuntime) -> Result<(), Fail> {
     let alloc = rt.alloc();
-    let is_changed = match value_in(alloc, "{\"a\": 1}") {
-        Some(mut object) => insert_two(alloc, &mut object) && has_text(alloc, &object, "a1b2"),
-        None => false,
-    };
-    holds(is_changed, "a member more")
+    holds(
+        object_changes(alloc, value_in(alloc, "{\"a\": 1}"), "a1b2"),
+        "a member more",
+    )
 }
 
 /// Returns `true` if a value was made and is this one.
@@ -133,23 +142,23 @@ fn is_cloned(cow: &ValueCow<'_>) -> bool {
 
 /// Returns `true` if a borrowed value is as the value, and lends what a value of this kind does.
 fn lends_alike(cow: &ValueCow<'_>, value: &Value, kind: &str) -> bool {
-    cow.as_array().is_some() == (kind == "array")
-        && cow.as_object().is_some() == (kind == "object")
-        && *cow.as_view() == *value
+    (cow.as_array().is_some() == (kind == "array"))
+        & (cow.as_object().is_some() == (kind == "object"))
+        & (*cow.as_view() == *value)
 }
 
 /// Returns `true` if a value that is borrowed is as the value, lends what it does, and is its clone if it is owned.
 fn is_borrowed_alike(value: &Value, kind: &str) -> bool {
     let cow = ValueCow::from(value);
     lends_alike(&cow, value, kind)
-        && is_cloned(&cow)
-        && is_same(ValueCow::from(value).into_owned(), value)
+        & is_cloned(&cow)
+        & is_same(ValueCow::from(value).into_owned(), value)
 }
 
 /// Returns `true` if there is a value, and it is as its clone and is borrowed alike.
 fn is_copied_alike(value: Option<Value>, kind: &str) -> bool {
     match value {
-        Some(value) => is_same(value.clone(), &value) && is_borrowed_alike(&value, kind),
+        Some(value) => is_same(value.clone(), &value) & is_borrowed_alike(&value, kind),
         None => false,
     }
 }
@@ -180,19 +189,20 @@ fn named(alloc: Global) -> Option<Object> {
     value_in(alloc, NAMED)?.into_object()?.into_object().ok()
 }
 
-/// Returns `true` if a value was made and is what a JSON text means.
-fn is_json(alloc: Global, made: Option<Value>, text: &str) -> bool {
-    match made.zip(value_in(alloc, text)) {
-        Some((value, wanted)) => value == wanted,
+/// Returns `true` if a value is what a JSON text means.
+fn is_meant(alloc: Global, value: &Value, text: &str) -> bool {
+    match value_in(alloc, text) {
+        Some(wanted) => wanted == *value,
         None => false,
     }
 }
 
-/// Returns `true` if values without members are kept.
-fn plain_values_are_kept(alloc: Global) -> bool {
-    is_json(alloc, Some(Value::default()), "null")
-        && is_json(alloc, Some(Value::from(State::Blank)), BLANK)
-        && is_json(alloc, Some(Value::from(Scalar::Integer(1))), "1")
+/// Returns `true` if a value was made and is what a JSON text means.
+fn is_json(alloc: Global, made: Option<Value>, text: &str) -> bool {
+    match made {
+        Some(value) => is_meant(alloc, &value, text),
+        None => false,
+    }
 }
 
 /// Returns an array that is built of items.
@@ -208,29 +218,24 @@ fn value_of_members(alloc: Global) -> Option<Value> {
     Some(Value::from(named(alloc)?))
 }
 
+/// Returns `true` if values are what they are made from.
+fn values_are_kept(alloc: Global) -> bool {
+    is_json(alloc, Some(Value::default()), "null")
+        && is_json(alloc, Some(Value::from(State::Blank)), BLANK)
+        && is_json(alloc, Some(Value::from(Scalar::Integer(1))), "1")
+        && is_json(alloc, built(alloc), ITEMS)
+        && is_json(alloc, value_of_items(alloc), ITEMS)
+        && is_json(alloc, value_of_members(alloc), NAMED)
+}
+
 #[test]
 fn conversions_keep_the_value(rt: HostRuntime) -> Result<(), Fail> {
-    let alloc = rt.alloc();
-    holds(plain_values_are_kept(alloc), "no members")?;
-    holds(
-        is_json(alloc, built(alloc), ITEMS)
-            && is_json(alloc, value_of_items(alloc), ITEMS)
-            && is_json(alloc, value_of_members(alloc), NAMED),
-        "items and members",
-    )
+    holds(values_are_kept(rt.alloc()), "the value of each conversion")
 }
 
 /// Returns `true` if a borrowed value that is owned is what a JSON text means.
 fn is_owned(alloc: Global, cow: ValueCow<'static>, text: &str) -> bool {
     is_json(alloc, cow.into_owned().ok(), text)
-}
-
-/// Returns `true` if borrowed values without members are kept.
-fn plain_cows_are_kept(alloc: Global) -> bool {
-    is_owned(alloc, ValueCow::default(), "null")
-        && is_owned(alloc, ValueCow::from(Value::Nil), "null")
-        && is_owned(alloc, ValueCow::from(State::Blank), BLANK)
-        && is_owned(alloc, ValueCow::from(Scalar::Integer(1)), "1")
 }
 
 fn cow_of_items(alloc: Global) -> Option<Value> {
@@ -241,14 +246,19 @@ fn cow_of_members(alloc: Global) -> Option<Value> {
     ValueCow::from(named(alloc)?).into_owned().ok()
 }
 
+/// Returns `true` if borrowed values are what they are made from.
+fn cows_are_kept(alloc: Global) -> bool {
+    is_owned(alloc, ValueCow::default(), "null")
+        && is_owned(alloc, ValueCow::from(Value::Nil), "null")
+        && is_owned(alloc, ValueCow::from(State::Blank), BLANK)
+        && is_owned(alloc, ValueCow::from(Scalar::Integer(1)), "1")
+        && is_json(alloc, cow_of_items(alloc), ITEMS)
+        && is_json(alloc, cow_of_members(alloc), NAMED)
+}
+
 #[test]
 fn conversions_keep_the_borrowed_value(rt: HostRuntime) -> Result<(), Fail> {
-    let alloc = rt.alloc();
-    holds(plain_cows_are_kept(alloc), "no members")?;
-    holds(
-        is_json(alloc, cow_of_items(alloc), ITEMS) && is_json(alloc, cow_of_members(alloc), NAMED),
-        "items and members",
-    )
+    holds(cows_are_kept(rt.alloc()), "the value of each conversion")
 }
 
 fn two_entries(alloc: Global) -> Option<Object> {
@@ -279,14 +289,15 @@ fn set_slot(alloc: Global, object: &mut Object) -> Result<(), AllocError> {
     Ok(())
 }
 
-/// Returns `true` if an object of two entries is a map.
-fn is_a_map(alloc: Global, object: Option<Object>) -> bool {
-    match object {
-        Some(mut object) => {
-            has_two_entries(&mut object)
-                && set_slot(alloc, &mut object).is_ok()
-                && has_text(alloc, &Value::from(object), "b2c4")
-        }
+/// Returns `true` if an entry can be set, and the object has this text then.
+fn is_set(alloc: Global, mut object: Object, text: &str) -> bool {
+    set_slot(alloc, &mut object).is_ok() & has_text(alloc, &Value::from(object), text)
+}
+
+/// Returns `true` if there is an object of two entries, and it is a map.
+fn is_a_map(alloc: Global, made: Option<Object>) -> bool {
+    match made {
+        Some(mut object) => has_two_entries(&mut object) & is_set(alloc, object, "b2c4"),
         None => false,
     }
 }
@@ -299,37 +310,33 @@ fn objects_are_maps(rt: HostRuntime) -> Result<(), Fail> {
 
 #[test]
 fn walks_over_entries_say_how_many_are_left_and_end(rt: HostRuntime) -> Result<(), Fail> {
-    let is_walked = match two_entries(rt.alloc()) {
-        Some(object) => entries_are_walked(object.iter()),
-        None => false,
-    };
-    holds(is_walked, "each step over entries")
+    holds(
+        entries_are_walked(two_entries(rt.alloc())),
+        "each step over entries",
+    )
 }
 
 #[test]
 fn walks_over_names_say_how_many_are_left_and_end(rt: HostRuntime) -> Result<(), Fail> {
-    let is_walked = match two_entries(rt.alloc()) {
-        Some(object) => names_are_walked(object.keys()),
-        None => false,
-    };
-    holds(is_walked, "each step over names")
+    holds(
+        names_are_walked(two_entries(rt.alloc())),
+        "each step over names",
+    )
 }
 
 #[test]
 fn walks_over_values_say_how_many_are_left_and_end(rt: HostRuntime) -> Result<(), Fail> {
     let alloc = rt.alloc();
-    let is_walked = match two_entries(alloc) {
-        Some(object) => values_are_walked(alloc, object.values()),
-        None => false,
-    };
-    holds(is_walked, "each step over values")
+    holds(
+        values_are_walked(alloc, two_entries(alloc)),
+        "each step over values",
+    )
 }
 
 #[test]
 fn owned_walks_say_how_many_are_left_and_end(rt: HostRuntime) -> Result<(), Fail> {
-    let is_walked = match two_entries(rt.alloc()) {
-        Some(object) => owned_entries_are_walked(object.into_iter()),
-        None => false,
-    };
-    holds(is_walked, "each step over owned entries")
+    holds(
+        owned_entries_are_walked(two_entries(rt.alloc())),
+        "each step over owned entries",
+    )
 }
