@@ -122,10 +122,12 @@ fn is_object(alloc: Global, json: &Json, wanted: &str) -> bool {
 
 /// Returns `true` if the JSON of a row is the row's object and its scalar.
 fn is_object_or_scalar(alloc: Global, row: &Line) -> bool {
-    let (Some(object), Some(scalar), Some(json)) = (row.text(0), row.text(1), row.member(2)) else {
-        return false;
-    };
-    is_object(alloc, json, object) && scalar_is_told(alloc, to_scalar(alloc, json), scalar)
+    match row.text(0).zip(row.text(1)).zip(row.member(2)) {
+        Some(((object, scalar), json)) => {
+            is_object(alloc, json, object) && scalar_is_told(alloc, to_scalar(alloc, json), scalar)
+        }
+        None => false,
+    }
 }
 
 #[test]

@@ -19,30 +19,28 @@ const TEXTS: &str = r#"["1", "1", "whole number", 1]
 ["", "empty", "empty", {"state": "empty"}]
 ["", "nil", "nil", null]"#;
 
-/// Returns `true` if there is a value, and it and the types that display it write the two texts.
-fn is_displayed(alloc: Global, value: Option<Value>, render: &str, source: &str) -> bool {
+/// Returns `true` if there is a value, it and the types that display it write the two texts, and its type has this name.
+fn is_displayed(
+    alloc: Global,
+    value: Option<Value>,
+    render: &str,
+    source: &str,
+    name: Option<&str>,
+) -> bool {
     match value {
         Some(value) => {
-            value_is_displayed(alloc, &value, render, source) & has_text(alloc, &value, render)
+            value_is_displayed(alloc, &value, render, source)
+                & has_text(alloc, &value, render)
+                & (name == Some(value.type_name()))
         }
         None => false,
     }
 }
 
-/// Returns `true` if there is a value, and its type has this name.
-fn has_type(value: Option<Value>, name: Option<&str>) -> bool {
-    match value {
-        Some(value) => name == Some(value.type_name()),
-        None => false,
-    }
-}
-
-/// Returns `true` if the value of a row writes the row's texts, and the name of its type is the row's.
 fn has_texts(alloc: Global, row: &Line) -> bool {
     match row.text(0).zip(row.text(1)) {
         Some((render, source)) => {
-            is_displayed(alloc, value_at(alloc, row, 3), render, source)
-                && has_type(value_at(alloc, row, 3), row.text(2))
+            is_displayed(alloc, value_at(alloc, row, 3), render, source, row.text(2))
         }
         None => false,
     }
