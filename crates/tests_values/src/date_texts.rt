@@ -5,29 +5,6 @@ use std::alloc::Global;
 use std::test::Fail;
 use tests_lines::{Line, holds, is_text, rows_hold};
 
-const DATE_ERRORS: [(DateError, &str); 4] = [
-    (DateError::PartOutOfRange, "part out of range"),
-    (DateError::OutsideYears, "result outside the years"),
-    (DateError::NoRfc2822Form, "no RFC 2822 form"),
-    (DateError::Memory, "out of memory"),
-];
-
-const FORMAT_ERRORS: [(DateFormatError, &str); 4] = [
-    (
-        DateFormatError::NoFormatSpecifier,
-        "no format specifier following '%'",
-    ),
-    (
-        DateFormatError::NoFormatSpecifierAfterModifier,
-        "no format specifier following '%' with a format modifier",
-    ),
-    (
-        DateFormatError::InvalidWidth,
-        "failed to parse padding width: number too large to fit in target type",
-    ),
-    (DateFormatError::Memory, "out of memory"),
-];
-
 // A pattern, and what `strftime` of C prints by it of 13 November 2022, 14:05:09 +0530.
 const PART: (&str, &str) = (
     "%A, %d %B %Y at %H:%M:%S %z, day %j of the year; ",
@@ -46,20 +23,47 @@ fn november() -> Result<DateTime, DateError> {
     DateTime::from_parts(Date::from_ymd(2022, 11, 13)?, 14, 5, 9, 0, 19_800)
 }
 
+/// Returns `true` if an error has this text.
+fn has_text(alloc: Global, error: DateError, text: &str) -> bool {
+    is_text(error.to_string(alloc), text)
+}
+
+/// Returns `true` if each error has its text.
+fn errors_have_texts(alloc: Global) -> bool {
+    has_text(alloc, DateError::PartOutOfRange, "part out of range")
+        && has_text(alloc, DateError::OutsideYears, "result outside the years")
+        && has_text(alloc, DateError::NoRfc2822Form, "no RFC 2822 form")
+        && has_text(alloc, DateError::Memory, "out of memory")
+}
+
 #[test]
 fn errors_have_their_texts(rt: HostRuntime) -> Result<(), Fail> {
-    for (error, text) in DATE_ERRORS {
-        holds(is_text(error.to_string(rt.alloc()), text), text)?;
-    }
-    Ok(())
+    holds(errors_have_texts(rt.alloc()), "the text of each error")
+}
+
+/// Returns `true` if an error of a pattern has this text.
+fn pattern_has_text(alloc: Global, error: DateFormatError, text: &str) -> bool {
+    is_text(error.to_string(alloc), text)
+}
+
+/// Returns `true` if each error of a pattern has its text.
+fn errors_of_patterns_have_texts(alloc: Global) -> bool {
+    let no_specifier = "no format specifier following '%'";
+    let modified = DateFormatError::NoFormatSpecifierAfterModifier;
+    let after_modifier = "no format specifier following '%' with a format modifier";
+    let width = "failed to parse padding width: number too large to fit in target type";
+    pattern_has_text(alloc, DateFormatError::NoFormatSpecifier, no_specifier)
+        && pattern_has_text(alloc, modified, after_modifier)
+        && pattern_has_text(alloc, DateFormatError::InvalidWidth, width)
+        && pattern_has_text(alloc, DateFormatError::Memory, "out of memory")
 }
 
 #[test]
 fn errors_of_patterns_have_their_texts(rt: HostRuntime) -> Result<(), Fail> {
-    for (error, text) in FORMAT_ERRORS {
-        holds(is_text(error.to_string(rt.alloc()), text), text)?;
-    }
-    Ok(())
+    holds(
+        errors_of_patterns_have_texts(rt.alloc()),
+        "the text of each error",
+    )
 }
 
 /// Returns a text that many times, and an end, or `None` if memory runs out.
@@ -113,23 +117,15 @@ fn prints_itself(alloc: Global, made: Option<String>) -> bool {
     }
 }
 
+// Many directives, 600 bytes of literal text alone with characters past ASCII, and a year that is filled to 500 bytes.
 #[test]
 fn long_texts_are_printed(rt: HostRuntime) -> Result<(), Fail> {
     let alloc = rt.alloc();
     holds(
-        prints_parts(alloc, repeated(alloc, PART.0, 12, "")),
-        "many directives",
-    )?;
-
-    // 600 bytes, with characters past ASCII
-    holds(
-        prints_itself(alloc, repeated(alloc, "a day é ", 66, "")),
-        "literal text alone",
-    )?;
-
-    holds(
-        prints_made(alloc, "%500Y", repeated(alloc, "0", 496, "2022")),
-        "a year that is filled to 500 bytes",
+        prints_parts(alloc, repeated(alloc, PART.0, 12, ""))
+            && prints_itself(alloc, repeated(alloc, "a day é ", 66, ""))
+            && prints_made(alloc, "%500Y", repeated(alloc, "0", 496, "2022")),
+        "many directives, literal text alone, and a year that is filled",
     )
 }
 
