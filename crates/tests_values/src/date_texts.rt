@@ -1,31 +1,9 @@
 //! Texts of dates whose existence no contract states: errors, long outputs, and the form of mail over its years.
+use crate::texts::push_times;
 use liquid_dates::{Date, DateError, DateFormatError, DateTime};
 use std::alloc::Global;
 use std::test::Fail;
-use tests_lines::{Line, holds, rows_hold, same};
-
-const DATE_ERRORS: [(DateError, &str); 4] = [
-    (DateError::PartOutOfRange, "part out of range"),
-    (DateError::OutsideYears, "result outside the years"),
-    (DateError::NoRfc2822Form, "no RFC 2822 form"),
-    (DateError::Memory, "out of memory"),
-];
-
-const FORMAT_ERRORS: [(DateFormatError, &str); 4] = [
-    (
-        DateFormatError::NoFormatSpecifier,
-        "no format specifier following '%'",
-    ),
-    (
-        DateFormatError::NoFormatSpecifierAfterModifier,
-        "no format specifier following '%' with a format modifier",
-    ),
-    (
-        DateFormatError::InvalidWidth,
-        "failed to parse padding width: number too large to fit in target type",
-    ),
-    (DateFormatError::Memory, "out of memory"),
-];
+use tests_lines::{Line, holds, is_text, rows_hold};
 
 // A pattern, and what `strftime` of C prints by it of 13 November 2022, 14:05:09 +0530.
 const PART: (&str, &str) = (
@@ -45,105 +23,160 @@ fn november() -> Result<DateTime, DateError> {
     DateTime::from_parts(Date::from_ymd(2022, 11, 13)?, 14, 5, 9, 0, 19_800)
 }
 
-/// Fails unless an error has this text.
-fn has_text(alloc: Global, error: DateError, text: &str) -> Result<(), Fail> {
-    same(error.to_string(alloc)?.as_str(), text)
+/// Returns `true` if an error has this text.
+fn has_text(alloc: Global, error: DateError, text: &str) -> bool {
+    is_text(error.to_string(alloc), text)
+}
+
+/// Returns `true` if each error has its text.
+fn errors_have_texts(alloc: Global) -> bool {
+    has_text(alloc, DateError::PartOutOfRange, "part out of range")
+        && has_text(alloc, DateError::OutsideYears, "result outside the years")
+        && has_text(alloc, DateError::NoRfc2822Form, "no RFC 2822 form")
+        && has_text(alloc, DateError::Memory, "out of memory")
 }
 
 #[test]
 fn errors_have_their_texts(rt: HostRuntime) -> Result<(), Fail> {
-    for (error, text) in DATE_ERRORS {
-        has_text(rt.alloc(), error, text)?;
-    }
-    Ok(())
+    holds(errors_have_texts(rt.alloc()), "the text of each error")
 }
 
-/// Fails unless the error of a pattern has this text.
-fn pattern_has_text(alloc: Global, error: DateFormatError, text: &str) -> Result<(), Fail> {
-    same(error.to_string(alloc)?.as_str(), text)
+/// Returns `true` if an error of a pattern has this text.
+fn pattern_has_text(alloc: Global, error: DateFormatError, text: &str) -> bool {
+    is_text(error.to_string(alloc), text)
+}
+
+/// Returns `true` if each error of a pattern has its text.
+fn errors_of_patterns_have_texts(alloc: Global) -> bool {
+    let no_specifier = "no format specifier following '%'";
+    let modified = DateFormatError::NoFormatSpecifierAfterModifier;
+    let after_modifier = "no format specifier following '%' with a format modifier";
+    let width = "failed to parse padding width: number too large to fit in target type";
+    pattern_has_text(alloc, DateFormatError::NoFormatSpecifier, no_specifier)
+        && pattern_has_text(alloc, modified, after_modifier)
+        && pattern_has_text(alloc, DateFormatError::InvalidWidth, width)
+        && pattern_has_text(alloc, DateFormatError::Memory, "out of memory")
 }
 
 #[test]
 fn errors_of_patterns_have_their_texts(rt: HostRuntime) -> Result<(), Fail> {
-    for (error, text) in FORMAT_ERRORS {
-        pattern_has_text(rt.alloc(), error, text)?;
-    }
-    Ok(())
-}
-
-fn repeated(alloc: Global, text: &str, count: u32) -> Result<String, Fail> {
-    let mut all = String::new(alloc);
-    for _ in 0..count {
-        all.push_str(text)?;
-    }
-    Ok(all)
-}
-
-/// Refuses a pattern that prints another text in November.
-fn prints(alloc: Global, pattern: &str, text: &str) -> Result<(), Fail> {
-    same(november()?.format(alloc, pattern)?.as_str(), text)
-}
-
-/// Refuses a pattern that doesn't print the part's text 12 times: 780 bytes of many directives and much literal text.
-fn prints_parts(alloc: Global, pattern: &str) -> Result<(), Fail> {
-    prints(alloc, pattern, repeated(alloc, PART.1, 12)?.as_str())
-}
-
-/// Returns a year that is filled to 500 bytes.
-fn filled(alloc: Global) -> Result<String, Fail> {
-    let mut filled = repeated(alloc, "0", 496)?;
-    filled.push_str("2022")?;
-    Ok(filled)
-}
-
-/// Refuses literal text that isn't printed as it is.
-fn prints_itself(alloc: Global, literal: &str) -> Result<(), Fail> {
-    prints(alloc, literal, literal)
-}
-
-#[test]
-fn long_texts_are_printed(rt: HostRuntime) -> Result<(), Fail> {
-    let alloc = rt.alloc();
-    prints_parts(alloc, repeated(alloc, PART.0, 12)?.as_str())?;
-
-    // Literal text alone: 600 bytes, with characters past ASCII.
-    prints_itself(alloc, repeated(alloc, "a day é ", 66)?.as_str())?;
-
-    // One directive filled to 500 bytes.
-    prints(alloc, "%500Y", filled(alloc)?.as_str())
-}
-
-/// Returns the date time of a text.
-fn moment_of(text: &str) -> Result<DateTime, Fail> {
-    match DateTime::from_str(text, november()?) {
-        Some(moment) => Ok(moment),
-        None => Err(Fail::from("no date time")),
-    }
-}
-
-fn is_mailed(alloc: Global, row: &Line) -> Result<bool, Fail> {
-    let (text, mailed) = (row.text(0)?, row.text(1)?);
-    Ok(moment_of(text)?.to_rfc2822(alloc)?.as_str() == mailed)
-}
-
-/// Fails unless a moment has no form for mail.
-fn has_no_form(alloc: Global, moment: DateTime, what: &str) -> Result<(), Fail> {
     holds(
-        moment.to_rfc2822(alloc).err() == Some(DateError::NoRfc2822Form),
-        what,
+        errors_of_patterns_have_texts(rt.alloc()),
+        "the text of each error",
     )
 }
 
-/// Fails unless a year before 1900 and an offset with seconds have no form for mail.
-fn check_refusals(alloc: Global) -> Result<(), Fail> {
-    let early = moment_of("1899-12-31 23:59:59 +0000")?;
-    has_no_form(alloc, early, "a year before 1900")?;
-    let seconds = november()?.with_offset(19_801)?;
-    has_no_form(alloc, seconds, "an offset with seconds")
+/// Returns a text that many times, and an end, or `None` if memory runs out.
+fn repeated(alloc: Global, text: &str, count: usize, end: &str) -> Option<String> {
+    let mut all = String::new(alloc);
+    if push_times(&mut all, text, count) && push_times(&mut all, end, 1) {
+        Some(all)
+    } else {
+        None
+    }
+}
+
+/// Returns `true` if a text was printed and is this one.
+pub(crate) fn is_printed(printed: Result<String, DateFormatError>, text: &str) -> bool {
+    match printed {
+        Ok(printed) => printed.as_str() == text,
+        Err(_) => false,
+    }
+}
+
+/// Returns `true` if a pattern prints this text in November.
+fn prints(alloc: Global, pattern: &str, text: &str) -> bool {
+    match november() {
+        Ok(moment) => is_printed(moment.format(alloc, pattern), text),
+        Err(_) => false,
+    }
+}
+
+/// Returns `true` if a text was made, and a pattern prints it in November.
+fn prints_made(alloc: Global, pattern: &str, made: Option<String>) -> bool {
+    match made {
+        Some(text) => prints(alloc, pattern, text.as_str()),
+        None => false,
+    }
+}
+
+/// Returns `true` if a pattern was made that prints the part's text 12 times: 780 bytes of many directives and much literal
+/// text.
+fn prints_parts(alloc: Global, made: Option<String>) -> bool {
+    match made {
+        Some(pattern) => prints_made(alloc, pattern.as_str(), repeated(alloc, PART.1, 12, "")),
+        None => false,
+    }
+}
+
+/// Returns `true` if literal text was made that is printed as it is.
+fn prints_itself(alloc: Global, made: Option<String>) -> bool {
+    match made {
+        Some(literal) => prints(alloc, literal.as_str(), literal.as_str()),
+        None => false,
+    }
+}
+
+// Many directives, 600 bytes of literal text alone with characters past ASCII, and a year that is filled to 500 bytes.
+#[test]
+fn long_texts_are_printed(rt: HostRuntime) -> Result<(), Fail> {
+    let alloc = rt.alloc();
+    holds(
+        prints_parts(alloc, repeated(alloc, PART.0, 12, ""))
+            && prints_itself(alloc, repeated(alloc, "a day é ", 66, ""))
+            && prints_made(alloc, "%500Y", repeated(alloc, "0", 496, "2022")),
+        "many directives, literal text alone, and a year that is filled",
+    )
+}
+
+/// Returns the date time of a text.
+fn moment_of(text: &str) -> Option<DateTime> {
+    DateTime::from_str(text, november().ok()?)
+}
+
+/// Returns `true` if a mail form was made and is this one.
+pub(crate) fn is_mail(made: Result<String, DateError>, mail: &str) -> bool {
+    match made {
+        Ok(made) => made.as_str() == mail,
+        Err(_) => false,
+    }
+}
+
+/// Returns `true` if the date time of a text has this form for mail.
+fn has_form(alloc: Global, text: &str, mail: &str) -> bool {
+    match moment_of(text) {
+        Some(moment) => is_mail(moment.to_rfc2822(alloc), mail),
+        None => false,
+    }
+}
+
+fn is_mailed(alloc: Global, row: &Line) -> bool {
+    match row.text(0).zip(row.text(1)) {
+        Some((text, mail)) => has_form(alloc, text, mail),
+        None => false,
+    }
+}
+
+/// Returns `true` if there is a moment, and it has no form for mail.
+pub(crate) fn has_no_form(alloc: Global, moment: Option<DateTime>) -> bool {
+    match moment {
+        Some(moment) => moment.to_rfc2822(alloc).err() == Some(DateError::NoRfc2822Form),
+        None => false,
+    }
+}
+
+/// Returns a moment whose offset has seconds.
+fn with_seconds() -> Option<DateTime> {
+    november().ok()?.with_offset(19_801).ok()
 }
 
 #[test]
 fn mail_dates_of_all_years(rt: HostRuntime) -> Result<(), Fail> {
-    rows_hold(rt.alloc(), MAILED, is_mailed)?;
-    check_refusals(rt.alloc())
+    let alloc = rt.alloc();
+    rows_hold(alloc, MAILED, is_mailed)?;
+    holds(
+        has_no_form(alloc, moment_of("1899-12-31 23:59:59 +0000"))
+            && has_no_form(alloc, with_seconds()),
+        "a year before 1900, and an offset with seconds",
+    )
 }

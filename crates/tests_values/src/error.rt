@@ -5,11 +5,11 @@ use liquid_error::{
 };
 use std::alloc::{AllocError, Global};
 use std::test::Fail;
-use tests_lines::{holds, same};
+use tests_lines::{holds, is_text};
 
-/// Fails unless an error prints this text.
-fn prints(alloc: Global, error: &Error, text: &str) -> Result<(), Fail> {
-    same(error.to_string(alloc)?.as_str(), text)
+/// Returns `true` if an error prints this text.
+fn prints(alloc: Global, error: &Error, text: &str) -> bool {
+    is_text(error.to_string(alloc), text)
 }
 
 /// Returns an error with contexts and traces.
@@ -22,22 +22,27 @@ fn traced(alloc: Global) -> Error {
         .trace(alloc, "c")
 }
 
-/// Fails unless an error has those contexts and traces, and nothing else.
-fn has_traces(alloc: Global, error: &Error) -> Result<(), Fail> {
+/// Returns `true` if an error has those contexts and traces, and nothing else.
+fn has_traces(alloc: Global, error: Error) -> bool {
     let text = "liquid: a\n  with:\n    k=v\nfrom: b\n  with:\n    l=w\n    m=x\nfrom: c\n";
-    prints(alloc, error, text)?;
-    holds(
-        !error.is_memory() && error.place().is_none(),
-        "no memory and no place",
-    )?;
-    holds(error.source().is_none(), "no cause")
+    prints(alloc, &error, text)
+        & !error.is_memory()
+        & error.place().is_none()
+        & error.source().is_none()
+}
+
+/// Returns `true` if an answer is an error.
+fn is_error(answer: liquid_error::Result<u8>) -> bool {
+    answer.is_err()
 }
 
 #[test]
 fn errors_have_texts(rt: HostRuntime) -> Result<(), Fail> {
     let alloc = rt.alloc();
-    has_traces(alloc, &traced(alloc))?;
-    holds(traced(alloc).into_err::<u8>().is_err(), "as a result")
+    holds(
+        has_traces(alloc, traced(alloc)) && is_error(traced(alloc).into_err()),
+        "contexts and traces, and an error as a result",
+    )
 }
 
 const FIRST: Place = Place {
@@ -47,10 +52,9 @@ const FIRST: Place = Place {
 
 const LATER: Place = Place { line: 3, column: 1 };
 
-/// Fails unless an error prints this text, and has the first place.
-fn is_placed(alloc: Global, error: &Error, text: &str) -> Result<(), Fail> {
-    prints(alloc, error, text)?;
-    holds(error.place() == Some(FIRST), "the first place")
+/// Returns `true` if an error prints this text, and has the first place.
+fn is_placed(alloc: Global, error: Error, text: &str) -> bool {
+    prints(alloc, &error, text) & (error.place() == Some(FIRST))
 }
 
 #[test]
@@ -58,20 +62,19 @@ fn errors_have_places(rt: HostRuntime) -> Result<(), Fail> {
     let alloc = rt.alloc();
     let text = "liquid: Invalid liquid (line 2, column 13)\n";
     let placed = Error::at_place(alloc, "Invalid liquid", FIRST);
-    is_placed(alloc, &placed, text)
+    holds(is_placed(alloc, placed, text), "the place and its text")
 }
 
-/// Fails unless an error is out of memory, and prints so.
-fn is_out_of_memory(alloc: Global, error: &Error) -> Result<(), Fail> {
-    holds(error.is_memory(), "out of memory")?;
-    prints(alloc, error, "liquid: out of memory\n")
+/// Returns `true` if an error is out of memory, and prints so.
+fn is_out_of_memory(alloc: Global, error: Error) -> bool {
+    error.is_memory() & prints(alloc, &error, "liquid: out of memory\n")
 }
 
 #[test]
 fn out_of_memory_stays_so(rt: HostRuntime) -> Result<(), Fail> {
     let alloc = rt.alloc();
     let starved = Error::Memory.trace(alloc, "a").context(alloc, "k", "v");
-    is_out_of_memory(alloc, &starved)
+    holds(is_out_of_memory(alloc, starved), "out of memory")
 }
 
 /// Returns an error that is placed twice.
@@ -82,10 +85,10 @@ fn placed_twice(alloc: Global) -> Error {
 #[test]
 fn an_error_is_placed_once(rt: HostRuntime) -> Result<(), Fail> {
     let alloc = rt.alloc();
-    is_placed(alloc, &placed_twice(alloc), "liquid: a\n")?;
     holds(
-        Error::Memory.or_place(FIRST).is_memory(),
-        "out of memory has none",
+        is_placed(alloc, placed_twice(alloc), "liquid: a\n")
+            && is_out_of_memory(alloc, Error::Memory.or_place(FIRST)),
+        "the first place, and none if memory runs out",
     )
 }
 
@@ -104,69 +107,65 @@ fn caused(alloc: Global) -> Result<Error, AllocError> {
     Ok(Error::with_msg(alloc, "c").cause(CauseOf::Error(middle)))
 }
 
-fn following(error: &Error) -> Option<&Error> {
-    match error.source()? {
-        CauseOf::Error(inner) => Some(inner),
-        CauseOf::Cloneable(_) => None,
-    }
-}
-
 /// Returns a clone of the error with two causes.
 fn copied(alloc: Global) -> Result<Error, AllocError> {
     caused(alloc)?.clone()
 }
 
-/// Fails unless a clone of a cause prints this text.
-fn clone_prints(alloc: Global, cause: &CauseOf<Error>, text: &str) -> Result<(), Fail> {
-    same(cause.clone()?.to_string(alloc)?.as_str(), text)
-}
-
-/// Fails unless the cause of an error is as the last one was.
-fn has_the_last_cause(alloc: Global, middle: &Error) -> Result<(), Fail> {
-    prints(alloc, middle, "liquid: b\n")?;
-    match middle.source() {
-        Some(last) => clone_prints(alloc, last, "liquid: a\n\n"),
-        None => holds(false, "the cause has a cause"),
+/// Returns `true` if a clone of the cause of an error prints this text.
+fn cause_is_cloned(alloc: Global, error: &Error, text: &str) -> bool {
+    match error.source() {
+        Some(cause) => match cause.clone() {
+            Ok(copy) => is_text(copy.to_string(alloc), text),
+            Err(_) => false,
+        },
+        None => false,
     }
 }
 
-/// Fails unless an error has the two causes.
-fn has_causes(alloc: Global, error: &Error) -> Result<(), Fail> {
-    prints(alloc, error, "liquid: c\n")?;
-    match following(error) {
-        Some(middle) => has_the_last_cause(alloc, middle),
-        None => holds(false, "an error has an error as its cause"),
+/// Returns `true` if an error has an error as its cause, and the cause a cause, each with its text.
+fn has_causes(alloc: Global, error: &Error) -> bool {
+    match error.source() {
+        Some(CauseOf::Error(middle)) => {
+            prints(alloc, error, "liquid: c\n")
+                && prints(alloc, middle, "liquid: b\n")
+                && cause_is_cloned(alloc, middle, "liquid: a\n\n")
+        }
+        _ => false,
+    }
+}
+
+/// Returns `true` if there is an error, and it has the two causes.
+fn is_caused(alloc: Global, made: Result<Error, AllocError>) -> bool {
+    match made {
+        Ok(error) => has_causes(alloc, &error),
+        Err(_) => false,
     }
 }
 
 #[test]
 fn a_clone_has_the_same_causes(rt: HostRuntime) -> Result<(), Fail> {
-    has_causes(rt.alloc(), &copied(rt.alloc())?)
+    let alloc = rt.alloc();
+    holds(is_caused(alloc, copied(alloc)), "the causes of a clone")
 }
 
 fn refused(alloc: Global) -> liquid_error::Result<u8> {
     Error::with_msg(alloc, "a").into_err()
 }
 
-/// Fails unless an error prints this text, and its cause the other one.
-fn prints_both(alloc: Global, error: &Error, text: &str, cause: &str) -> Result<(), Fail> {
-    prints(alloc, error, text)?;
+/// Returns `true` if the cause of an error prints this text, which is empty for an error without a cause.
+fn cause_prints(alloc: Global, error: &Error, text: &str) -> bool {
     match error.source() {
-        Some(source) => same(source.to_string(alloc)?.as_str(), cause),
-        None => same("", cause),
+        Some(cause) => is_text(cause.to_string(alloc), text),
+        None => text.is_empty(),
     }
 }
 
-/// Fails for an answer whose error doesn't print this text, or whose cause doesn't print the other one.
-fn shows(
-    alloc: Global,
-    answer: liquid_error::Result<u8>,
-    text: &str,
-    cause: &str,
-) -> Result<(), Fail> {
+/// Returns `true` if an answer is an error that prints this text, and its cause the other one.
+fn shows(alloc: Global, answer: liquid_error::Result<u8>, text: &str, cause: &str) -> bool {
     match answer {
-        Ok(_) => holds(false, "an answer is an error"),
-        Err(error) => prints_both(alloc, &error, text, cause),
+        Ok(_) => false,
+        Err(error) => prints(alloc, &error, text) & cause_prints(alloc, &error, cause),
     }
 }
 
@@ -174,24 +173,24 @@ fn made(alloc: Global) -> Result<String, AllocError> {
     String::from_str(alloc, "b")
 }
 
-/// Fails unless a new error has the old one as its cause, or replaces it, if its text is given.
-fn check_texts(alloc: Global) -> Result<(), Fail> {
+/// Returns `true` if a new error has the old one as its cause, or replaces it, if its text is given.
+fn texts_are_chained(alloc: Global) -> bool {
     let new = "liquid: b\n";
-    shows(alloc, refused(alloc).chain(alloc, "b"), new, "liquid: a\n")?;
-    shows(
-        alloc,
-        refused(alloc).lossy_chain(alloc, "b"),
-        new,
-        "liquid: a\n\n",
-    )?;
-    shows(alloc, refused(alloc).replace(alloc, "b"), new, "")?;
     let starved: liquid_error::Result<u8> = Err(Error::Memory);
     let memory = "liquid: out of memory\n";
     shows(alloc, starved.replace(alloc, "b"), memory, "")
+        && shows(alloc, refused(alloc).chain(alloc, "b"), new, "liquid: a\n")
+        && shows(
+            alloc,
+            refused(alloc).lossy_chain(alloc, "b"),
+            new,
+            "liquid: a\n\n",
+        )
+        && shows(alloc, refused(alloc).replace(alloc, "b"), new, "")
 }
 
-/// Fails unless a new error has the old one as its cause, or replaces it, if a call makes its text.
-fn check_made_texts(alloc: Global) -> Result<(), Fail> {
+/// Returns `true` if a new error has the old one as its cause, or replaces it, if a call makes its text.
+fn made_texts_are_chained(alloc: Global) -> bool {
     let new = "liquid: b\n";
     let text = || made(alloc);
     shows(
@@ -199,24 +198,36 @@ fn check_made_texts(alloc: Global) -> Result<(), Fail> {
         refused(alloc).chain_with(alloc, text),
         new,
         "liquid: a\n",
-    )?;
-    shows(
+    ) && shows(
         alloc,
         refused(alloc).lossy_chain_with(alloc, text),
         new,
         "liquid: a\n\n",
-    )?;
-    shows(alloc, refused(alloc).replace_with(alloc, text), new, "")
+    ) && shows(alloc, refused(alloc).replace_with(alloc, text), new, "")
 }
 
 #[test]
 fn errors_are_chained_and_replaced(rt: HostRuntime) -> Result<(), Fail> {
-    check_texts(rt.alloc())?;
-    check_made_texts(rt.alloc())
+    let alloc = rt.alloc();
+    holds(
+        texts_are_chained(alloc) && made_texts_are_chained(alloc),
+        "new errors",
+    )
 }
 
-/// Fails unless a context is added whose name or value is made.
-fn check_made_contexts(alloc: Global) -> Result<(), Fail> {
+/// Returns `true` if a context is added whose name and value are given.
+fn has_context(alloc: Global) -> bool {
+    let with = "liquid: a\n  with:\n    k=v\n";
+    shows(
+        alloc,
+        refused(alloc).context_key("k").value(alloc, "v"),
+        with,
+        "",
+    )
+}
+
+/// Returns `true` if a context is added whose name or value is made.
+fn has_made_contexts(alloc: Global) -> bool {
     let made = || made(alloc);
     let with = "liquid: a\n  with:\n    b=b\n";
     shows(
@@ -224,14 +235,12 @@ fn check_made_contexts(alloc: Global) -> Result<(), Fail> {
         Key::value_with(refused(alloc).context_key("b"), alloc, made),
         with,
         "",
-    )?;
-    shows(
+    ) && shows(
         alloc,
         refused(alloc).context_key_with(made).value(alloc, "b"),
         with,
         "",
-    )?;
-    shows(
+    ) && shows(
         alloc,
         FnKey::value_with(refused(alloc).context_key_with(made), made),
         with,
@@ -242,21 +251,19 @@ fn check_made_contexts(alloc: Global) -> Result<(), Fail> {
 #[test]
 fn contexts_are_added(rt: HostRuntime) -> Result<(), Fail> {
     let alloc = rt.alloc();
-    shows(
-        alloc,
-        refused(alloc).context_key("k").value(alloc, "v"),
-        "liquid: a\n  with:\n    k=v\n",
-        "",
-    )?;
-    check_made_contexts(alloc)
+    holds(has_context(alloc) && has_made_contexts(alloc), "contexts")
 }
 
-/// Fails unless a trace is added to an error.
-fn check_traces(alloc: Global) -> Result<(), Fail> {
+/// Returns `true` if a trace is added to an error.
+fn has_trace(alloc: Global) -> bool {
     let traced = "liquid: a\nfrom: b\n";
-    shows(alloc, refused(alloc).trace(alloc, "b"), traced, "")?;
-    let later = refused(alloc).trace_with(alloc, || made(alloc));
-    shows(alloc, later, traced, "")
+    shows(alloc, refused(alloc).trace(alloc, "b"), traced, "")
+        && shows(
+            alloc,
+            refused(alloc).trace_with(alloc, || made(alloc)),
+            traced,
+            "",
+        )
 }
 
 /// Returns `true` if a result without an error is unchanged, and the text of its trace is never made.
@@ -267,11 +274,14 @@ fn is_left_alone(alloc: Global) -> bool {
         calls = 1;
         made(alloc)
     });
-    matches!(traced, Ok(7)) && calls == 0
+    matches!(traced, Ok(7)) & (calls == 0)
 }
 
 #[test]
 fn traces_are_added_to_an_error_alone(rt: HostRuntime) -> Result<(), Fail> {
-    check_traces(rt.alloc())?;
-    holds(is_left_alone(rt.alloc()), "an answer is not traced")
+    let alloc = rt.alloc();
+    holds(
+        has_trace(alloc) && is_left_alone(alloc),
+        "a trace, and an answer that is not traced",
+    )
 }

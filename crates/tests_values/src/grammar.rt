@@ -2,40 +2,44 @@
 mod elements;
 mod parts;
 mod symbols;
+mod told;
 
+use crate::grammar::told::{kind_told, told};
+use crate::texts::push_times;
 use liquid_grammar::{
-    Element, Fault, FaultKind, Literal, TokenKind, chain_kind, integer_of, match_argument,
-    match_chain, match_expression, match_filter, match_identifier, match_index, match_literal,
-    match_tag, match_token, match_value, match_variable, match_white, next_element, token_kind,
+    Element, Fault, FaultKind, TokenKind, chain_kind, integer_of, match_argument, match_chain,
+    match_expression, match_filter, match_identifier, match_index, match_literal, match_tag,
+    match_token, match_value, match_variable, match_white, next_element, token_kind,
 };
-use std::alloc::{AllocError, Global};
+use std::alloc::Global;
 use std::test::Fail;
 use tests_lines::{Line, holds, rows_hold};
 
 /// What a rule finds at the beginning of a text: its first fault, and what is left of the text.
 type Match<'a> = Option<(Option<Fault<'a>>, &'a str)>;
 
-fn matched<'a>(rule: &str, text: &'a str) -> Result<Match<'a>, Fail> {
+/// Returns the match of the rule of this name, or `None` if no rule has the name.
+fn matched<'a>(rule: &str, text: &'a str) -> Option<Match<'a>> {
     match rule {
-        "value" => Ok(match_value(text)),
-        "variable" => Ok(match_variable(text)),
-        "index" => Ok(match_index(text)),
-        "argument" => Ok(match_argument(text)),
-        "filter" => Ok(match_filter(text)),
-        "chain" => Ok(match_chain(text)),
-        "token" => Ok(match_token(text)),
-        "expression" => Ok(match_expression(text)),
-        "tag" => Ok(match_tag(text)),
-        _ => Err(Fail::from("no rule has this name")),
+        "value" => Some(match_value(text)),
+        "variable" => Some(match_variable(text)),
+        "index" => Some(match_index(text)),
+        "argument" => Some(match_argument(text)),
+        "filter" => Some(match_filter(text)),
+        "chain" => Some(match_chain(text)),
+        "token" => Some(match_token(text)),
+        "expression" => Some(match_expression(text)),
+        "tag" => Some(match_tag(text)),
+        _ => None,
     }
 }
 
 /// Returns `true` if a match without a fault leaves this of the text, or none begins it where nothing is wanted.
-fn leaves(rule: &str, text: &str, rest: Option<&str>) -> Result<bool, Fail> {
-    match (matched(rule, text)?, rest) {
-        (None, None) => Ok(true),
-        (Some((fault, after)), Some(rest)) => Ok(fault.is_none() && after == rest),
-        _ => Ok(false),
+fn leaves(rule: &str, text: &str, rest: Option<&str>) -> bool {
+    match matched(rule, text) {
+        Some(Some((fault, after))) => fault.is_none() && rest == Some(after),
+        Some(None) => rest.is_none(),
+        None => false,
     }
 }
 
@@ -116,8 +120,11 @@ const FAULTS: &str =
 
 /// Returns `true` if the row's rule leaves the row's rest of its text without a fault, or begins no match if the row
 /// has none.
-fn is_left(_alloc: Global, row: &Line) -> Result<bool, Fail> {
-    leaves(row.text(0)?, row.text(1)?, row.found_text(2))
+fn is_left(_alloc: Global, row: &Line) -> bool {
+    match row.text(0).zip(row.text(1)) {
+        Some((rule, text)) => leaves(rule, text, row.text(2)),
+        None => false,
+    }
 }
 
 #[test]
@@ -137,12 +144,12 @@ fn fault_name(kind: FaultKind) -> &'static str {
     }
 }
 
-fn is_fault(_alloc: Global, row: &Line) -> Result<bool, Fail> {
-    match matched(row.text(0)?, row.text(1)?)? {
-        Some((Some(fault), _)) => {
-            Ok(fault_name(fault.kind) == row.text(2)? && fault.place == row.text(3)?)
+fn is_fault(_alloc: Global, row: &Line) -> bool {
+    match matched(row.text(0).unwrap_or(""), row.text(1).unwrap_or("")) {
+        Some(Some((Some(fault), _))) => {
+            row.text(2) == Some(fault_name(fault.kind)) && row.text(3) == Some(fault.place)
         }
-        _ => Ok(false),
+        _ => false,
     }
 }
 
@@ -195,47 +202,31 @@ const CHAIN_KINDS: &str = r#"["a }}", "identifier", "a"]
 ["1 }}", "integer", "1"]
 ["(1..a)"]"#;
 
-/// Returns a literal's kind and its text, as the tables name them.
-fn told<'a>(literal: Literal<'a>) -> (&'a str, &'a str) {
-    match literal {
-        Literal::Nil => ("nil", ""),
-        Literal::Empty => ("empty", ""),
-        Literal::Blank => ("blank", ""),
-        Literal::Truth(true) => ("true", ""),
-        Literal::Truth(false) => ("false", ""),
-        Literal::Text(text) => ("text", text),
-        Literal::Integer(text) => ("integer", text),
-        Literal::Decimal(text) => ("decimal", text),
-    }
-}
-
-/// Returns the kind of a token or chain, and its text, as the tables name them.
-fn kind_told<'a>(kind: TokenKind<'a>) -> (&'a str, &'a str) {
-    match kind {
-        TokenKind::Identifier(name) => ("identifier", name),
-        TokenKind::Literal(literal) => told(literal),
-        TokenKind::Variable => ("variable", ""),
-        TokenKind::Filtered => ("filtered", ""),
-        TokenKind::Range => ("range", ""),
-        TokenKind::Symbol => ("symbol", ""),
-    }
-}
-
 /// Returns the two texts of a row after its first, if it has them.
 fn pair(row: &Line) -> Option<(&str, &str)> {
-    Some((row.found_text(1)?, row.found_text(2)?))
+    row.text(1).zip(row.text(2))
 }
 
-fn is_identifier(_alloc: Global, row: &Line) -> Result<bool, Fail> {
-    Ok(match_identifier(row.text(0)?) == pair(row))
+fn is_identifier(_alloc: Global, row: &Line) -> bool {
+    match row.text(0) {
+        Some(text) => match_identifier(text) == pair(row),
+        None => false,
+    }
 }
 
-fn is_literal(_alloc: Global, row: &Line) -> Result<bool, Fail> {
-    match match_literal(row.text(0)?) {
-        Some((literal, rest)) => {
-            Ok(pair(row) == Some(told(literal)) && row.found_text(3) == Some(rest))
-        }
-        None => Ok(row.found(1).is_none()),
+/// Returns `true` if a text begins with the literal of the row and leaves the row's rest, or with none if the row has
+/// none.
+fn begins_with_literal(text: &str, row: &Line) -> bool {
+    match match_literal(text) {
+        Some((literal, rest)) => pair(row) == Some(told(literal)) && row.text(3) == Some(rest),
+        None => row.member(1).is_none(),
+    }
+}
+
+fn is_literal(_alloc: Global, row: &Line) -> bool {
+    match row.text(0) {
+        Some(text) => begins_with_literal(text, row),
+        None => false,
     }
 }
 
@@ -245,12 +236,18 @@ fn identifiers_and_literals_are_found(rt: HostRuntime) -> Result<(), Fail> {
     rows_hold(rt.alloc(), LITERALS, is_literal)
 }
 
-fn is_token_kind(_alloc: Global, row: &Line) -> Result<bool, Fail> {
-    Ok(token_kind(row.text(0)?).map(kind_told) == pair(row))
+fn is_token_kind(_alloc: Global, row: &Line) -> bool {
+    match row.text(0) {
+        Some(text) => token_kind(text).map(kind_told) == pair(row),
+        None => false,
+    }
 }
 
-fn is_chain_kind(_alloc: Global, row: &Line) -> Result<bool, Fail> {
-    Ok(chain_kind(row.text(0)?).map(kind_told) == pair(row))
+fn is_chain_kind(_alloc: Global, row: &Line) -> bool {
+    match row.text(0) {
+        Some(text) => chain_kind(text).map(kind_told) == pair(row),
+        None => false,
+    }
 }
 
 #[test]
@@ -262,127 +259,126 @@ fn tokens_and_chains_have_kinds(rt: HostRuntime) -> Result<(), Fail> {
 #[test]
 fn kinds_tell_their_names(_rt: HostRuntime) -> Result<(), Fail> {
     holds(
-        TokenKind::Identifier("a").identifier() == Some("a"),
-        "a name",
-    )?;
-    holds(TokenKind::Variable.identifier().is_none(), "a path")
+        TokenKind::Identifier("a").identifier() == Some("a")
+            && TokenKind::Variable.identifier().is_none(),
+        "a name, and a path",
+    )
 }
 
 #[test]
 fn white_space_is_matched(_rt: HostRuntime) -> Result<(), Fail> {
-    holds(match_white(" \t\r\n é") == (" \t\r\n ", "é"), "blanks")?;
-    holds(match_white("a ") == ("", "a "), "no blanks")
+    holds(
+        match_white(" \t\r\n é") == (" \t\r\n ", "é") && match_white("a ") == ("", "a "),
+        "blanks, and none",
+    )
 }
 
 #[test]
 fn whole_numbers_of_64_bits_are_numbers(_rt: HostRuntime) -> Result<(), Fail> {
     holds(
-        integer_of("-7") == Some(-7) && integer_of("+7") == Some(7),
-        "signs",
-    )?;
-    holds(integer_of("9223372036854775808").is_none(), "past 64 bits")?;
-    holds(integer_of("7a").is_none(), "no number")
+        integer_of("-7") == Some(-7)
+            && integer_of("+7") == Some(7)
+            && integer_of("9223372036854775808").is_none()
+            && integer_of("7a").is_none(),
+        "signs, a number past 64 bits, and no number",
+    )
 }
 
-/// Adds a part that many times to a text.
-fn push_times(text: &mut String, part: &str, times: usize) -> Result<(), AllocError> {
-    for _ in 0..times {
-        text.push_str(part)?;
-    }
-    Ok(())
+/// Adds a text, a name after a hundred brackets, and as many brackets that end as this says, and returns `true` if memory
+/// doesn't run out.
+fn push_brackets(whole: &mut String, start: &str, ends: usize) -> bool {
+    push_times(whole, start, 1)
+        && push_times(whole, "a[", 100)
+        && push_times(whole, "a", 1)
+        && push_times(whole, "]", ends)
 }
 
-/// Returns a text, and then a part that many times.
-fn repeated(alloc: Global, start: &str, part: &str, times: usize) -> Result<String, AllocError> {
-    let mut whole = String::from_str(alloc, start)?;
-    push_times(&mut whole, part, times)?;
-    Ok(whole)
-}
-
-/// Returns a text, a name after a hundred brackets, and as many brackets that end as this says.
-fn bracketed(alloc: Global, start: &str, ends: usize) -> Result<String, AllocError> {
-    let mut whole = repeated(alloc, start, "a[", 100)?;
-    whole.push_str("a")?;
-    push_times(&mut whole, "]", ends)?;
-    Ok(whole)
-}
-
-/// Fails unless a value leaves this of a text.
-fn value_leaves(text: &str, rest: &str, what: &str) -> Result<(), Fail> {
-    holds(leaves("value", text, Some(rest))?, what)
+/// Returns `true` if a value leaves nothing of a hundred brackets.
+fn brackets_are_matched(alloc: Global) -> bool {
+    let mut whole = String::new(alloc);
+    push_brackets(&mut whole, "", 100) & leaves("value", whole.as_str(), Some(""))
 }
 
 #[test]
 fn a_hundred_brackets(rt: HostRuntime) -> Result<(), Fail> {
-    let whole = bracketed(rt.alloc(), "", 100)?;
-    value_leaves(whole.as_str(), "", "a hundred brackets")
+    holds(brackets_are_matched(rt.alloc()), "a hundred brackets")
 }
 
-/// Fails unless the second of a text's brackets is too deep.
-fn is_too_deep(text: &str) -> Result<(), Fail> {
+/// Returns `true` if the second of a text's brackets is too deep.
+fn is_too_deep(text: &str) -> bool {
     match match_value(text) {
         Some((Some(fault), "")) => {
-            let is_too_deep = fault.kind == FaultKind::NestedTooDeep;
-            holds(is_too_deep && fault.place.len() == 103, "one bracket more")
+            fault.kind == FaultKind::NestedTooDeep && fault.place.len() == 103
         }
-        _ => holds(false, "a bracket is too deep"),
+        _ => false,
     }
+}
+
+/// Returns `true` if one bracket more is too deep.
+fn one_more_is_too_deep(alloc: Global) -> bool {
+    let mut deeper = String::new(alloc);
+    push_brackets(&mut deeper, "b[", 101) & is_too_deep(deeper.as_str())
 }
 
 #[test]
 fn one_bracket_more_is_too_deep(rt: HostRuntime) -> Result<(), Fail> {
-    let deeper = bracketed(rt.alloc(), "b[", 101)?;
-    is_too_deep(deeper.as_str())
+    holds(one_more_is_too_deep(rt.alloc()), "one bracket more")
 }
 
-/// Fails unless a name leaves the brackets after it.
-fn name_leaves(alloc: Global, brackets: &str) -> Result<(), Fail> {
-    let text = repeated(alloc, "a", brackets, 1)?;
-    value_leaves(text.as_str(), brackets, "a million brackets")
+/// Returns `true` if a name leaves the many brackets after it.
+fn brackets_are_left(alloc: Global, brackets: usize) -> bool {
+    let mut text = String::new(alloc);
+    push_times(&mut text, "a", 1)
+        & push_times(&mut text, "[", brackets)
+        & leaves("value", text.as_str(), text.as_str().strip_prefix("a"))
 }
 
 #[test]
 fn a_million_brackets_are_left(rt: HostRuntime) -> Result<(), Fail> {
-    let brackets = repeated(rt.alloc(), "", "[", 1_000_000)?;
-    name_leaves(rt.alloc(), brackets.as_str())
+    holds(
+        brackets_are_left(rt.alloc(), 1_000_000),
+        "a million brackets",
+    )
 }
 
-/// Fails unless a million blanks are one element.
-fn are_raw(blanks: &str) -> Result<(), Fail> {
+/// Returns `true` if a million blanks are one element.
+fn are_raw(blanks: &str) -> bool {
     match next_element(blanks) {
-        Some((Element::Raw(raw), rest)) => {
-            holds(
-                raw.len() == 1_000_000 && rest.is_empty(),
-                "a million blanks",
-            )
-        }
-        _ => holds(false, "blanks are raw text"),
+        Some((Element::Raw(raw), rest)) => raw.len() == 1_000_000 && rest.is_empty(),
+        _ => false,
     }
+}
+
+/// Returns `true` if blanks are one element.
+fn blanks_are_raw(alloc: Global) -> bool {
+    let mut blanks = String::new(alloc);
+    push_times(&mut blanks, " ", 1_000_000) & are_raw(blanks.as_str())
 }
 
 #[test]
 fn a_million_blanks_are_raw_text(rt: HostRuntime) -> Result<(), Fail> {
-    let blanks = repeated(rt.alloc(), "", " ", 1_000_000)?;
-    are_raw(blanks.as_str())
+    holds(blanks_are_raw(rt.alloc()), "a million blanks")
 }
 
-/// Fails unless each of a hundred thousand braces is an invalid element, and the last one raw text.
-fn are_invalid(braces: &str) -> Result<(), Fail> {
+/// Returns `true` if each of a hundred thousand braces is an invalid element, and the last one raw text.
+fn are_invalid(braces: &str) -> bool {
     let mut rest = braces;
     for _ in 0..99_999 {
         match next_element(rest) {
             Some((Element::Invalid("{"), after)) => rest = after,
-            _ => return Err(Fail::new("a brace is no invalid element")),
+            _ => return false,
         }
     }
-    holds(
-        next_element(rest) == Some((Element::Raw("{"), "")),
-        "the last brace",
-    )
+    next_element(rest) == Some((Element::Raw("{"), ""))
+}
+
+/// Returns `true` if braces are invalid elements.
+fn braces_are_invalid(alloc: Global) -> bool {
+    let mut braces = String::new(alloc);
+    push_times(&mut braces, "{", 100_000) & are_invalid(braces.as_str())
 }
 
 #[test]
 fn a_hundred_thousand_braces_are_invalid(rt: HostRuntime) -> Result<(), Fail> {
-    let braces = repeated(rt.alloc(), "", "{", 100_000)?;
-    are_invalid(braces.as_str())
+    holds(braces_are_invalid(rt.alloc()), "a hundred thousand braces")
 }

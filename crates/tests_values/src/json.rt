@@ -1,4 +1,5 @@
 //! JSON as values, and values as JSON.
+use crate::texts::{is_count, push_times};
 use crate::value::value_in;
 use liquid_error::{Error, Result};
 use liquid_json::{
@@ -7,35 +8,23 @@ use liquid_json::{
 use liquid_scalar::Scalar;
 use liquid_value::render::ValueSource;
 use liquid_value::{Object, Value};
-use serde_json::Error as JsonError;
+use serde_json::{Error as JsonError, Value as Json};
 use std::alloc::{AllocError, Global};
 use std::test::Fail;
-use tests_lines::{Line, holds, rows_hold, same};
+use tests_lines::{Line, holds, is_text, rows_hold};
 
 /// Returns `true` if this is the source of a value.
-fn value_is_told(
-    alloc: Global,
-    value: &Value,
-    wanted: &str,
-) -> std::result::Result<bool, AllocError> {
-    Ok(ValueSource::new(value).to_string(alloc)?.as_str() == wanted)
+fn value_is_told(alloc: Global, value: &Value, wanted: &str) -> bool {
+    is_text(ValueSource::new(value).to_string(alloc), wanted)
 }
 
 /// Returns `true` if this is the text of an error.
-fn error_is_told(
-    alloc: Global,
-    error: &Error,
-    wanted: &str,
-) -> std::result::Result<bool, AllocError> {
-    Ok(error.to_string(alloc)?.as_str() == wanted)
+fn error_is_told(alloc: Global, error: &Error, wanted: &str) -> bool {
+    is_text(error.to_string(alloc), wanted)
 }
 
 /// Returns `true` if the source of the value that was made, or the text of the error, is this one.
-fn is_told(
-    alloc: Global,
-    made: Result<Value>,
-    wanted: &str,
-) -> std::result::Result<bool, AllocError> {
+fn is_told(alloc: Global, made: Result<Value>, wanted: &str) -> bool {
     match made {
         Ok(value) => value_is_told(alloc, &value, wanted),
         Err(error) => error_is_told(alloc, &error, wanted),
@@ -43,11 +32,7 @@ fn is_told(
 }
 
 /// Returns `true` if the source of the object that was made, or the text of the error, is this one.
-fn object_is_told(
-    alloc: Global,
-    made: Result<Object>,
-    wanted: &str,
-) -> std::result::Result<bool, AllocError> {
+fn object_is_told(alloc: Global, made: Result<Object>, wanted: &str) -> bool {
     match made {
         Ok(object) => value_is_told(alloc, &Value::from(object), wanted),
         Err(error) => error_is_told(alloc, &error, wanted),
@@ -55,11 +40,7 @@ fn object_is_told(
 }
 
 /// Returns `true` if the source of the scalar that was made, or the text of the error, is this one.
-fn scalar_is_told(
-    alloc: Global,
-    made: Result<Scalar>,
-    wanted: &str,
-) -> std::result::Result<bool, AllocError> {
+fn scalar_is_told(alloc: Global, made: Result<Scalar>, wanted: &str) -> bool {
     match made {
         Ok(scalar) => value_is_told(alloc, &Value::Scalar(scalar), wanted),
         Err(error) => error_is_told(alloc, &error, wanted),
@@ -86,12 +67,22 @@ const VALUES: &str = r#"["nil", null]
 ["{\"a\": 2, }", {"a": 1.5, "a": 2}]
 ["liquid: Cannot fit number\n", [[[[[9223372036854775808]]]], 1.5]]"#;
 
+/// Returns `true` if a JSON was copied and is this value taken apart.
+fn is_taken(alloc: Global, copy: std::result::Result<Json, AllocError>, wanted: &str) -> bool {
+    match copy {
+        Ok(json) => is_told(alloc, into_value(alloc, json), wanted),
+        Err(_) => false,
+    }
+}
+
 /// Returns `true` if the JSON of a row is the row's value, copied and taken apart.
-fn is_value(alloc: Global, row: &Line) -> std::result::Result<bool, Fail> {
-    let (wanted, json) = (row.text(0)?, row.member(1)?);
-    let is_copied = is_told(alloc, to_value(alloc, json), wanted)?;
-    let is_taken = is_told(alloc, into_value(alloc, json.clone()?), wanted)?;
-    Ok(is_copied & is_taken)
+fn is_value(alloc: Global, row: &Line) -> bool {
+    match row.text(0).zip(row.member(1)) {
+        Some((wanted, json)) => {
+            is_told(alloc, to_value(alloc, json), wanted) && is_taken(alloc, json.clone(), wanted)
+        }
+        None => false,
+    }
 }
 
 #[test]
@@ -111,23 +102,37 @@ const OBJECTS_AND_SCALARS: &str =
 ["{\"a\": 1, }", "liquid: Scalar must be a string.\n", {"a": [1]}]
 ["liquid: Fractional number\n", "liquid: Scalar must be a string.\n", {"a": 1.5}]"#;
 
-/// Returns `true` if the JSON of a row is the row's object, copied and taken apart.
-fn is_object(alloc: Global, row: &Line) -> std::result::Result<bool, Fail> {
-    let (wanted, json) = (row.text(0)?, row.member(2)?);
-    let is_copied = object_is_told(alloc, to_object(alloc, json), wanted)?;
-    let is_taken = object_is_told(alloc, into_object(alloc, json.clone()?), wanted)?;
-    Ok(is_copied & is_taken)
+/// Returns `true` if a JSON was copied and is this object taken apart.
+fn is_taken_object(
+    alloc: Global,
+    copy: std::result::Result<Json, AllocError>,
+    wanted: &str,
+) -> bool {
+    match copy {
+        Ok(json) => object_is_told(alloc, into_object(alloc, json), wanted),
+        Err(_) => false,
+    }
 }
 
-fn is_scalar(alloc: Global, row: &Line) -> std::result::Result<bool, Fail> {
-    let (wanted, json) = (row.text(1)?, row.member(2)?);
-    Ok(scalar_is_told(alloc, to_scalar(alloc, json), wanted)?)
+/// Returns `true` if a JSON is this object, copied and taken apart.
+fn is_object(alloc: Global, json: &Json, wanted: &str) -> bool {
+    object_is_told(alloc, to_object(alloc, json), wanted)
+        && is_taken_object(alloc, json.clone(), wanted)
+}
+
+/// Returns `true` if the JSON of a row is the row's object and its scalar.
+fn is_object_or_scalar(alloc: Global, row: &Line) -> bool {
+    match row.text(0).zip(row.text(1)).zip(row.member(2)) {
+        Some(((object, scalar), json)) => {
+            is_object(alloc, json, object) && scalar_is_told(alloc, to_scalar(alloc, json), scalar)
+        }
+        None => false,
+    }
 }
 
 #[test]
 fn json_is_an_object_or_a_scalar(rt: HostRuntime) -> std::result::Result<(), Fail> {
-    rows_hold(rt.alloc(), OBJECTS_AND_SCALARS, is_object)?;
-    rows_hold(rt.alloc(), OBJECTS_AND_SCALARS, is_scalar)
+    rows_hold(rt.alloc(), OBJECTS_AND_SCALARS, is_object_or_scalar)
 }
 
 // A text as an object, by its source text or by the error, and the text.
@@ -160,31 +165,32 @@ const READ: &str =
 ["no JSON", "{\"a\": \"\\ud800\"}"]"#;
 
 /// Returns `true` if the source of the object of the text, or the text of the error, is this one.
-fn is_read_as(alloc: Global, text: &str, wanted: &str) -> std::result::Result<bool, AllocError> {
+fn is_read_as(alloc: Global, text: &str, wanted: &str) -> bool {
     match object_from_str(alloc, text) {
         Ok(object) => object_is_told(alloc, object, wanted),
-        Err(error) => Ok(!error.is_memory() & (wanted == "no JSON")),
+        Err(error) => !error.is_memory() & (wanted == "no JSON"),
     }
 }
 
-fn is_read(alloc: Global, row: &Line) -> std::result::Result<bool, Fail> {
-    Ok(is_read_as(alloc, row.text(1)?, row.text(0)?)?)
+fn is_read(alloc: Global, row: &Line) -> bool {
+    match row.text(0).zip(row.text(1)) {
+        Some((wanted, text)) => is_read_as(alloc, text, wanted),
+        None => false,
+    }
 }
 
-/// Returns that many nested arrays, as a member of an object.
-fn nested(alloc: Global, arrays: usize) -> std::result::Result<String, AllocError> {
-    let opened = "[".repeat(alloc, arrays)?;
-    let closed = "]".repeat(alloc, arrays)?;
-    format!(in alloc; "{{\"a\": {opened}{closed}}}")
+/// Adds an object with that many nested arrays as a member to a text, and returns `true` if memory doesn't run out.
+fn push_nested(text: &mut String, arrays: usize) -> bool {
+    text.push_str("{\"a\": ").is_ok()
+        && push_times(text, "[", arrays)
+        && push_times(text, "]", arrays)
+        && text.push_str("}").is_ok()
 }
 
 /// Returns `true` if an object of that many nested arrays is read as a text.
-fn is_nested_as(
-    alloc: Global,
-    arrays: usize,
-    wanted: &str,
-) -> std::result::Result<bool, AllocError> {
-    is_read_as(alloc, nested(alloc, arrays)?.as_str(), wanted)
+fn is_nested_as(alloc: Global, arrays: usize, wanted: &str) -> bool {
+    let mut text = String::new(alloc);
+    push_nested(&mut text, arrays) & is_read_as(alloc, text.as_str(), wanted)
 }
 
 // With 126 arrays in an object, 127 are nested, and `serde_json` reads no more.
@@ -193,12 +199,8 @@ fn texts_are_objects(rt: HostRuntime) -> std::result::Result<(), Fail> {
     let alloc = rt.alloc();
     rows_hold(alloc, READ, is_read)?;
     holds(
-        is_nested_as(alloc, 126, "{\"a\": , }")?,
-        "126 arrays are read",
-    )?;
-    holds(
-        is_nested_as(alloc, 127, "no JSON")?,
-        "127 arrays are not read",
+        is_nested_as(alloc, 126, "{\"a\": , }") && is_nested_as(alloc, 127, "no JSON"),
+        "126 arrays are read, and 127 are not",
     )
 }
 
@@ -216,31 +218,31 @@ const NO_JSON: &str = r#"["ends too soon", 1, 0, ""]
 ["is wrong", 2, 8, "{\n  \"a\": x}"]
 ["is wrong", 3, 1, "[1.5,\n2\n}"]"#;
 
-/// Returns `true` if a count is this number.
-fn is_count(count: usize, number: i64) -> bool {
-    match i64::try_from(count) {
-        Ok(count) => count == number,
-        Err(_) => false,
-    }
-}
-
 /// Returns `true` if an error has the kind and the place of the row.
-fn is_at(error: &JsonError, row: &Line) -> std::result::Result<bool, Fail> {
+fn is_at(error: &JsonError, row: &Line) -> bool {
     let told = if error.is_eof() {
         "ends too soon"
     } else {
         "is wrong"
     };
-    let is_told = told == row.text(0)?;
-    let is_line = is_count(error.line(), row.number(1)?);
-    Ok(is_count(error.column(), row.number(2)?) & is_line & is_told)
+    row.text(0) == Some(told)
+        && is_count(error.line(), row.number(1))
+        && is_count(error.column(), row.number(2))
 }
 
-/// Returns `true` if reading the text fails with the error of the row.
-fn is_no_json(alloc: Global, row: &Line) -> std::result::Result<bool, Fail> {
-    match object_from_str(alloc, row.text(3)?) {
-        Ok(_) => Ok(false),
+/// Returns `true` if a text was not read, with the error of the row.
+fn is_no_object(read: std::result::Result<Result<Object>, JsonError>, row: &Line) -> bool {
+    match read {
+        Ok(_) => false,
         Err(error) => is_at(&error, row),
+    }
+}
+
+/// Returns `true` if reading the text of the row fails with the error of the row.
+fn is_no_json(alloc: Global, row: &Line) -> bool {
+    match row.text(3) {
+        Some(text) => is_no_object(object_from_str(alloc, text), row),
+        None => false,
     }
 }
 
@@ -263,10 +265,19 @@ fn shown(alloc: Global, value: &Value) -> std::result::Result<String, AllocError
     from_value(alloc, value)?.to_string(alloc)
 }
 
-fn text_is_shown(alloc: Global, row: &Line) -> std::result::Result<bool, Fail> {
-    let wanted = row.text(1)?;
-    let value = Value::scalar(String::from_str(alloc, row.text(0)?)?);
-    Ok(shown(alloc, &value)?.as_str() == wanted)
+/// Returns `true` if a text was made and is shown as this JSON.
+fn is_shown(alloc: Global, made: std::result::Result<String, AllocError>, json: &str) -> bool {
+    match made {
+        Ok(text) => is_text(shown(alloc, &Value::scalar(text)), json),
+        Err(_) => false,
+    }
+}
+
+fn text_is_shown(alloc: Global, row: &Line) -> bool {
+    match row.text(0).zip(row.text(1)) {
+        Some((text, json)) => is_shown(alloc, String::from_str(alloc, text), json),
+        None => false,
+    }
 }
 
 const ALL: &str =
@@ -275,14 +286,20 @@ const ALL: &str =
 const ALL_SHOWN: &str =
     r#"[-5,null,null,"2016-02-16","2016-02-16 10:00:00 +0100",{"n":"a","t":true}]"#;
 
-/// Fails unless a value is shown as this JSON.
-fn is_shown(alloc: Global, value: &Value, json: &str) -> std::result::Result<(), Fail> {
-    same(shown(alloc, value)?.as_str(), json)
+/// Returns `true` if there is a value and it is shown as this JSON.
+fn value_is_shown(alloc: Global, value: Option<Value>, json: &str) -> bool {
+    match value {
+        Some(value) => is_text(shown(alloc, &value), json),
+        None => false,
+    }
 }
 
 #[test]
 fn values_are_shown(rt: HostRuntime) -> std::result::Result<(), Fail> {
     let alloc = rt.alloc();
     rows_hold(alloc, TEXTS, text_is_shown)?;
-    is_shown(alloc, &value_in(alloc, ALL)?, ALL_SHOWN)
+    holds(
+        value_is_shown(alloc, value_in(alloc, ALL), ALL_SHOWN),
+        "values of all kinds",
+    )
 }

@@ -17,6 +17,8 @@ mod names;
 #[cfg(test)]
 mod scalar;
 #[cfg(test)]
+mod texts;
+#[cfg(test)]
 mod value;
 #[cfg(test)]
 mod views;

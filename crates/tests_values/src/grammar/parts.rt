@@ -1,5 +1,5 @@
 //! The parts that each walk over a matched text returns.
-use super::told;
+use super::told::told;
 use liquid_grammar::{
     ArgumentStart, ChainStep, FilterStart, Head, IndexStart, Literal, TokenKind, TokenParts,
     TokenText, chain_step, close_bracket, expression_end, expression_start, next_argument,
@@ -7,26 +7,26 @@ use liquid_grammar::{
 };
 use std::alloc::Global;
 use std::test::Fail;
-use tests_lines::{Line, holds, rows_hold, same};
+use tests_lines::{Line, holds, rows_hold};
 
 #[test]
 fn values_have_heads(_rt: HostRuntime) -> Result<(), Fail> {
-    holds(value_head("a.b") == Some((Head::Name("a"), ".b")), "a name")?;
     let number = Head::Literal(Literal::Integer("12"));
     holds(
-        value_head("12 b") == Some((number, " b")) && value_head("| a").is_none(),
-        "a literal and no value",
+        value_head("a.b") == Some((Head::Name("a"), ".b"))
+            && value_head("12 b") == Some((number, " b"))
+            && value_head("| a").is_none(),
+        "a name, a literal and no value",
     )
 }
 
 #[test]
 fn indexes_begin_by_a_dot_or_a_bracket(_rt: HostRuntime) -> Result<(), Fail> {
-    let named = Some((IndexStart::Named("b"), "[0]"));
-    holds(next_index(".b[0]", 0) == named, "a dot")?;
-    let bracket = Some((IndexStart::Bracket, "0]"));
     holds(
-        next_index("[0]", 0) == bracket && next_index(" b", 0).is_none(),
-        "a bracket and no index",
+        next_index(".b[0]", 0) == Some((IndexStart::Named("b"), "[0]"))
+            && next_index("[0]", 0) == Some((IndexStart::Bracket, "0]"))
+            && next_index(" b", 0).is_none(),
+        "a dot, a bracket and no index",
     )?;
     holds(
         close_bracket(" ].c") == Some(".c") && close_bracket(".c").is_none(),
@@ -51,18 +51,16 @@ fn arguments_begin_by_a_colon_or_a_comma(_rt: HostRuntime) -> Result<(), Fail> {
         head: Head::Literal(Literal::Integer("1")),
         rest: ", to: b",
     };
-    holds(
-        next_argument(": 1, to: b", true) == Some(first),
-        "the first",
-    )?;
     let second = ArgumentStart {
         name: Some("to"),
         head: Head::Name("b"),
         rest: "",
     };
     holds(
-        next_argument(", to: b", false) == Some(second) && next_argument("", false).is_none(),
-        "a named one and none",
+        next_argument(": 1, to: b", true) == Some(first)
+            && next_argument(", to: b", false) == Some(second)
+            && next_argument("", false).is_none(),
+        "the first, a named one and none",
     )
 }
 
@@ -96,16 +94,25 @@ fn head_told<'a>(head: Head<'a>) -> (&'a str, &'a str) {
     }
 }
 
-fn is_argument(_alloc: Global, row: &Line) -> Result<bool, Fail> {
-    match next_argument(row.text(0)?, false) {
-        Some(found) => {
-            let (kind, text) = head_told(found.head);
-            let value = found.name == row.found_text(1)
-                && kind == row.text(2)?
-                && text == row.text(3)?;
-            Ok(value && found.rest == row.text(4)?)
-        }
-        None => Ok(row.found(1).is_none()),
+/// Returns `true` if an argument has the name, the value and the rest of the row.
+fn is_in_row(found: ArgumentStart<'_>, row: &Line) -> bool {
+    found.name == row.text(1)
+        && Some(head_told(found.head)) == row.text(2).zip(row.text(3))
+        && Some(found.rest) == row.text(4)
+}
+
+/// Returns `true` if an argument is the row's, or if there is neither.
+fn is_found(found: Option<ArgumentStart<'_>>, row: &Line) -> bool {
+    match found {
+        Some(found) => is_in_row(found, row),
+        None => row.member(1).is_none(),
+    }
+}
+
+fn is_argument(_alloc: Global, row: &Line) -> bool {
+    match row.text(0) {
+        Some(text) => is_found(next_argument(text, false), row),
+        None => false,
     }
 }
 
@@ -116,26 +123,28 @@ fn arguments_have_a_name_where_a_colon_and_a_value_follow(rt: HostRuntime) -> Re
 
 #[test]
 fn expressions_begin_by_braces(_rt: HostRuntime) -> Result<(), Fail> {
-    let is_dashed = expression_start("{{- a }}b") == Some("a }}b");
     holds(
-        is_dashed && expression_start("{{a}}") == Some("a}}"),
-        "a dash and none",
-    )?;
-    let is_none = expression_start(" {{- a }}").is_none();
-    holds(
-        is_none && expression_start("{% a %}").is_none(),
-        "white space and a tag",
+        expression_start("{{- a }}b") == Some("a }}b")
+            && expression_start("{{a}}") == Some("a}}")
+            && expression_start(" {{- a }}").is_none()
+            && expression_start("{% a %}").is_none(),
+        "a dash and none, white space and a tag",
     )
 }
 
 #[test]
 fn expressions_end_by_braces(_rt: HostRuntime) -> Result<(), Fail> {
-    let is_dashed = expression_end(" -}} b") == Some("b");
     holds(
-        is_dashed && expression_end("}} b") == Some(" b"),
-        "a dash and none",
-    )?;
-    holds(expression_end(" | a }}").is_none(), "a filter")
+        expression_end(" -}} b") == Some("b")
+            && expression_end("}} b") == Some(" b")
+            && expression_end(" | a }}").is_none(),
+        "a dash, none, and a filter",
+    )
+}
+
+/// Returns `true` if a chain ends here, and this is left after it.
+fn ends(chain: &str, rest: &str) -> bool {
+    chain_step(chain) == Some(ChainStep::End(rest))
 }
 
 #[test]
@@ -146,54 +155,52 @@ fn chains_go_on_or_end(_rt: HostRuntime) -> Result<(), Fail> {
         rest: ": 1 }}",
     });
     holds(chain_step(" | cut: 1 }}") == Some(filter), "a filter")?;
-    let is_end = chain_step(" }} b") == Some(ChainStep::End(" b"));
-    let dashed = Some(ChainStep::End("b"));
     holds(
-        is_end && chain_step("-}} b") == dashed,
-        "an end and a dashed one",
-    )?;
-    let is_none = chain_step(" | }}").is_none();
-    holds(
-        is_none && chain_step(" , 1 }}").is_none(),
-        "a bar alone and neither",
+        ends(" }} b", " b")
+            && ends("-}} b", "b")
+            && chain_step(" | }}").is_none()
+            && chain_step(" , 1 }}").is_none(),
+        "an end, a dashed one, a bar alone and neither",
     )
 }
 
-/// Fails unless a token is the range `(1..a)`.
-fn is_range(token: TokenText<'_>) -> Result<(), Fail> {
-    same(token.text, "(1..a)")?;
-    same(token.rest, " b")?;
+/// Returns `true` if a token is the range `(1..a)`.
+fn is_range(token: TokenText<'_>) -> bool {
     let parts = TokenParts::Range {
         start: "1..a) b",
         stop: "a) b",
     };
-    holds(token.parts == parts, "a range")
+    token.text == "(1..a)" && token.rest == " b" && token.parts == parts
 }
 
 #[test]
 fn tokens_stand_after_white_space(_rt: HostRuntime) -> Result<(), Fail> {
-    holds(next_token(" ").is_none(), "no token")?;
-    match next_token(" (1..a) b") {
+    let is_found = match next_token(" (1..a) b") {
         Some(range) => is_range(range),
-        None => holds(false, "a token"),
-    }
+        None => false,
+    };
+    holds(
+        is_found && next_token(" ").is_none(),
+        "a range, and no token",
+    )
 }
 
-/// Fails unless a token is the name `b`.
-fn is_name(token: TokenText<'_>) -> Result<(), Fail> {
-    same(token.place, "b")?;
-    same(token.text, "b")?;
+/// Returns `true` if a token is the name `b`.
+fn is_name(token: TokenText<'_>) -> bool {
     let parts = TokenParts::Chain(TokenKind::Identifier("b"));
-    holds(token.parts == parts, "a name")
+    token.place == "b" && token.text == "b" && token.parts == parts
+}
+
+/// Returns the second token of a text.
+fn second_token(text: &str) -> Option<TokenText<'_>> {
+    next_token(next_token(text)?.rest)
 }
 
 #[test]
 fn tokens_stand_side_by_side(_rt: HostRuntime) -> Result<(), Fail> {
-    match next_token(" (1..a) b") {
-        Some(range) => match next_token(range.rest) {
-            Some(name) => is_name(name),
-            None => holds(false, "a second token"),
-        },
-        None => holds(false, "a token"),
-    }
+    let is_found = match second_token(" (1..a) b") {
+        Some(name) => is_name(name),
+        None => false,
+    };
+    holds(is_found, "a second token")
 }

@@ -39,10 +39,57 @@ const EQUALITIES: &str = r#"[true, "", true]
 [{"moment": [10, 3600]}, {"moment": [9, 0]}, true]
 [{"day": 16}, true, true]"#;
 
-fn is_equality(alloc: Global, row: &Line) -> Result<bool, Fail> {
-    let wanted = row.truth(2)?;
-    let (left, right) = pair_of(alloc, row)?;
-    Ok(ValueViewCmp::new(&left).value_eq(&ValueViewCmp::new(&right)) == wanted)
+fn are_equal(left: &Value, right: &Value) -> bool {
+    ValueViewCmp::new(left).value_eq(&ValueViewCmp::new(right))
+}
+
+/// Returns the name of an order, if there is one.
+pub(crate) fn name_of(order: Option<Ordering>) -> Option<&'static str> {
+    match order {
+        Some(Ordering::Less) => Some("less"),
+        Some(Ordering::Equal) => Some("equal"),
+        Some(Ordering::Greater) => Some("greater"),
+        None => None,
+    }
+}
+
+/// Returns the name of the loose order of two values, if they have one.
+fn order_of(left: &Value, right: &Value) -> Option<&'static str> {
+    name_of(ValueViewCmp::new(left).value_cmp(&ValueViewCmp::new(right)))
+}
+
+fn fed(value: &Value) -> u64 {
+    let mut hasher = DefaultHasher::new();
+    value.hash(&mut hasher);
+    hasher.finish()
+}
+
+/// Returns `true` if two values are the same if that is wanted, and have one hash where they are.
+fn are_same(left: &Value, right: &Value, wanted: Option<bool>) -> bool {
+    let is_same = *left == *right;
+    wanted == Some(is_same) && (!is_same || fed(left) == fed(right))
+}
+
+/// Returns `true` if two values compare as a row says.
+fn compare(left: &Value, right: &Value, how: &str, row: &Line) -> bool {
+    match how {
+        "loosely" => row.truth(2) == Some(are_equal(left, right)),
+        "in order" => row.text(2) == order_of(left, right),
+        "strictly" => are_same(left, right, row.truth(2)),
+        _ => false,
+    }
+}
+
+/// Returns `true` if the values of a row compare as it says.
+fn are_compared(alloc: Global, row: &Line, how: &str) -> bool {
+    match pair_of(alloc, row) {
+        Some((left, right)) => compare(&left, &right, how, row),
+        None => false,
+    }
+}
+
+fn is_equality(alloc: Global, row: &Line) -> bool {
+    are_compared(alloc, row, "loosely")
 }
 
 #[test]
@@ -66,31 +113,13 @@ const ORDERS: &str = r#"[[1], [1, 2], "less"]
 [{"day": 15}, {"day": 16}, "less"]
 [{"moment": [10, 3600]}, {"moment": [10, 0]}, "less"]"#;
 
-/// Returns the name of an order, if there is one.
-pub(crate) fn name_of(order: Option<Ordering>) -> Option<&'static str> {
-    match order {
-        Some(Ordering::Less) => Some("less"),
-        Some(Ordering::Equal) => Some("equal"),
-        Some(Ordering::Greater) => Some("greater"),
-        None => None,
-    }
-}
-
-fn is_order(alloc: Global, row: &Line) -> Result<bool, Fail> {
-    let (left, right) = pair_of(alloc, row)?;
-    let answer = ValueViewCmp::new(&left).value_cmp(&ValueViewCmp::new(&right));
-    Ok(name_of(answer) == row.found_text(2))
+fn is_order(alloc: Global, row: &Line) -> bool {
+    are_compared(alloc, row, "in order")
 }
 
 #[test]
 fn the_first_difference_decides(rt: HostRuntime) -> Result<(), Fail> {
     rows_hold(rt.alloc(), ORDERS, is_order)
-}
-
-fn fed(value: &Value) -> u64 {
-    let mut hasher = DefaultHasher::new();
-    value.hash(&mut hasher);
-    hasher.finish()
 }
 
 // Two values, and whether they are the same.
@@ -104,12 +133,8 @@ const SAME: &str = r#"[{"a": 1, "b": 2}, {"b": 2, "a": 1}, true]
 [{"day": 16}, {"moment": [10, 3600]}, false]
 [{"moment": [10, 3600]}, {"moment": [9, 0]}, true]"#;
 
-/// Returns `true` if two values are the same as the row says, and have one hash where they are.
-fn is_sameness(alloc: Global, row: &Line) -> Result<bool, Fail> {
-    let wanted = row.truth(2)?;
-    let (left, right) = pair_of(alloc, row)?;
-    let is_same = left == right;
-    Ok((is_same == wanted) & (!is_same | (fed(&left) == fed(&right))))
+fn is_sameness(alloc: Global, row: &Line) -> bool {
+    are_compared(alloc, row, "strictly")
 }
 
 #[test]

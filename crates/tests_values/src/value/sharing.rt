@@ -1,33 +1,52 @@
 //! Arrays and objects that values share: a write reaches the value that is written to, and no other one.
-use super::insert;
+use super::{has_text, insert, push};
 use liquid_value::{Array, Object, SharedArray, SharedObject, Value};
-use std::alloc::{AllocError, Global};
+use std::alloc::Global;
 use std::test::Fail;
-use tests_lines::{holds, same};
+use tests_lines::holds;
 
 /// Returns the array `[1]`, whose copies share it.
-fn array(alloc: Global) -> Result<Value, AllocError> {
+fn array(alloc: Global) -> Option<Value> {
     let mut items = Array::new(alloc);
-    items.push(Value::scalar(1i64))?;
-    Ok(Value::Array(SharedArray::shared(alloc, items)?))
+    if push(&mut items, Some(Value::scalar(1i64))) {
+        Some(Value::Array(SharedArray::shared(alloc, items).ok()?))
+    } else {
+        None
+    }
 }
 
 /// Returns the object `{"a": 1}`, whose copies share it.
-fn object(alloc: Global) -> Result<Value, AllocError> {
+fn object(alloc: Global) -> Option<Value> {
     let mut members = Object::new(alloc);
-    insert(alloc, &mut members, "a", Value::scalar(1i64))?;
-    Ok(Value::Object(SharedObject::shared(alloc, members)?))
+    if insert(alloc, &mut members, "a", Some(Value::scalar(1i64))) {
+        Some(Value::Object(SharedObject::shared(alloc, members).ok()?))
+    } else {
+        None
+    }
 }
 
-/// Writes 2 after the items, or as the member `b`.
-fn write(alloc: Global, value: &mut Value) -> Result<(), AllocError> {
+/// Puts 2 after the items of an array, and returns `true` if memory doesn't run out.
+pub(super) fn push_two(items: &mut SharedArray) -> bool {
+    match SharedArray::to_mut(items) {
+        Ok(items) => push(items, Some(Value::scalar(2i64))),
+        Err(_) => false,
+    }
+}
+
+/// Sets the member `b` of an object to 2, and returns `true` if memory doesn't run out.
+pub(super) fn insert_two(alloc: Global, members: &mut SharedObject) -> bool {
+    match SharedObject::to_mut(members) {
+        Ok(members) => insert(alloc, members, "b", Some(Value::scalar(2i64))),
+        Err(_) => false,
+    }
+}
+
+/// Writes 2 after the items, or as the member `b`, and returns `true` if it could be written.
+fn write(alloc: Global, value: &mut Value) -> bool {
     match value {
-        Value::Array(items) => Ok(SharedArray::to_mut(items)?.push(Value::scalar(2i64))?),
-        Value::Object(members) => {
-            let members = SharedObject::to_mut(members)?;
-            insert(alloc, members, "b", Value::scalar(2i64))
-        }
-        _ => Ok(()),
+        Value::Array(items) => push_two(items),
+        Value::Object(members) => insert_two(alloc, members),
+        _ => false,
     }
 }
 
@@ -40,87 +59,86 @@ fn is_alone(value: &mut Value) -> bool {
     }
 }
 
-/// Fails unless a value has this text.
-pub(super) fn has_text(alloc: Global, value: &Value, text: &str) -> Result<(), Fail> {
-    same(value.to_kstr(alloc)?.as_str(), text)
+/// Returns `true` if two values share their content, and a write to the first leaves the second as it was.
+fn share(alloc: Global, first: &mut Value, second: &mut Value, before: &str, after: &str) -> bool {
+    !is_alone(first)
+        && !is_alone(second)
+        && write(alloc, first)
+        && has_text(alloc, first, after)
+        && has_text(alloc, second, before)
+        && is_alone(first)
+        && is_alone(second)
 }
 
-/// Fails unless a write to one of two values that share their content leaves the other one as it was.
-fn share(
-    alloc: Global,
-    first: &mut Value,
-    second: &mut Value,
-    before: &str,
-    after: &str,
-) -> Result<(), Fail> {
-    let are_shared = !is_alone(first) & !is_alone(second);
-    holds(are_shared, "two values share")?;
-    write(alloc, first)?;
-    has_text(alloc, first, after)?;
-    has_text(alloc, second, before)?;
-    let are_alone = is_alone(first) & is_alone(second);
-    holds(are_alone, "after a write each is alone")
+/// Returns `true` if a value shares its content with its copy, and a write to the value leaves the copy as it was.
+fn shares_with_copy(alloc: Global, first: &mut Value, before: &str, after: &str) -> bool {
+    match first.clone() {
+        Ok(mut second) => share(alloc, first, &mut second, before, after),
+        Err(_) => false,
+    }
 }
 
-/// Fails unless a write to a value that shares its content leaves the other value as it was.
-fn shares(alloc: Global, first: &mut Value, before: &str, after: &str) -> Result<(), Fail> {
-    holds(is_alone(first), "one value is alone")?;
-    let mut second = first.clone()?;
-    share(alloc, first, &mut second, before, after)
+/// Returns `true` if a value is alone before it is copied, and shares its content then until it is written to.
+fn shares(alloc: Global, value: Option<Value>, before: &str, after: &str) -> bool {
+    match value {
+        Some(mut first) => {
+            is_alone(&mut first) & shares_with_copy(alloc, &mut first, before, after)
+        }
+        None => false,
+    }
 }
 
 #[test]
 fn a_write_leaves_the_other_owner_as_it_was(rt: HostRuntime) -> Result<(), Fail> {
     let alloc = rt.alloc();
-    shares(alloc, &mut array(alloc)?, "1", "12")?;
-    shares(alloc, &mut object(alloc)?, "a1", "a1b2")
+    holds(
+        shares(alloc, array(alloc), "1", "12") && shares(alloc, object(alloc), "a1", "a1b2"),
+        "the value that is written to, and the other one",
+    )
 }
 
-/// Returns the items of a copy of an array.
-fn taken_array(value: &Value) -> Result<Array, Fail> {
+/// Returns the value of the items of a copy of an array.
+fn taken_items(items: &SharedArray) -> Option<Value> {
+    let copy = SharedArray::clone(items).ok()?;
+    Some(Value::from(SharedArray::into_array(copy).ok()?))
+}
+
+/// Returns the value of the members of a copy of an object.
+fn taken_members(members: &SharedObject) -> Option<Value> {
+    let copy = SharedObject::clone(members).ok()?;
+    Some(Value::from(SharedObject::into_object(copy).ok()?))
+}
+
+/// Returns a value of what is taken from a copy of an array or an object.
+fn taken(value: &Value) -> Option<Value> {
     match value {
-        Value::Array(items) => Ok(SharedArray::into_array(SharedArray::clone(items)?)?),
-        _ => Err(Fail::from("a value is no array")),
+        Value::Array(items) => taken_items(items),
+        Value::Object(members) => taken_members(members),
+        _ => None,
     }
 }
 
-/// Returns the members of a copy of an object.
-fn taken_object(value: &Value) -> Result<Object, Fail> {
+/// Returns `true` if there is a value, and it has this text after a write to it.
+fn is_changed(alloc: Global, value: Option<Value>, after: &str) -> bool {
     match value {
-        Value::Object(members) => Ok(SharedObject::into_object(SharedObject::clone(members)?)?),
-        _ => Err(Fail::from("a value is no object")),
+        Some(mut value) => write(alloc, &mut value) & has_text(alloc, &value, after),
+        None => false,
     }
 }
 
-/// Returns the items that are taken from an array, and 2 after them.
-fn longer(array: &Value) -> Result<Value, Fail> {
-    let mut items = taken_array(array)?;
-    items.push(Value::scalar(2i64))?;
-    Ok(Value::from(items))
-}
-
-/// Returns the members that are taken from an object, and the member `b`.
-fn larger(alloc: Global, object: &Value) -> Result<Value, Fail> {
-    let mut members = taken_object(object)?;
-    insert(alloc, &mut members, "b", Value::scalar(2i64))?;
-    Ok(Value::from(members))
-}
-
-/// Fails unless the items can be taken while another value shares them, which keeps them.
-fn array_is_taken(alloc: Global, array: &Value) -> Result<(), Fail> {
-    has_text(alloc, &longer(array)?, "12")?;
-    has_text(alloc, array, "1")
-}
-
-/// Fails unless the members can be taken while another value shares them, which keeps them.
-fn object_is_taken(alloc: Global, object: &Value) -> Result<(), Fail> {
-    has_text(alloc, &larger(alloc, object)?, "a1b2")?;
-    has_text(alloc, object, "a1")
+/// Returns `true` if what a value holds can be taken and changed while the value shares it, which keeps it.
+fn is_kept(alloc: Global, value: Option<Value>, before: &str, after: &str) -> bool {
+    match value {
+        Some(value) => { is_changed(alloc, taken(&value), after) & has_text(alloc, &value, before) }
+        None => false,
+    }
 }
 
 #[test]
 fn what_is_taken_is_a_copy_where_it_is_shared(rt: HostRuntime) -> Result<(), Fail> {
     let alloc = rt.alloc();
-    array_is_taken(alloc, &array(alloc)?)?;
-    object_is_taken(alloc, &object(alloc)?)
+    holds(
+        is_kept(alloc, array(alloc), "1", "12") && is_kept(alloc, object(alloc), "a1", "a1b2"),
+        "what is taken, and what is kept",
+    )
 }

@@ -1,8 +1,8 @@
 //! Values with their texts and their states.
 use super::shown::value_is_displayed;
-use super::value_at;
+use super::{has_text, value_at};
 use liquid_value::{State, Value};
-use std::alloc::{AllocError, Global};
+use std::alloc::Global;
 use std::test::Fail;
 use tests_lines::{Line, rows_hold};
 
@@ -19,43 +19,36 @@ const TEXTS: &str = r#"["1", "1", "whole number", 1]
 ["", "empty", "empty", {"state": "empty"}]
 ["", "nil", "nil", null]"#;
 
-/// Returns `true` if the types that display a value write the row's texts.
-fn is_displayed(alloc: Global, row: &Line) -> Result<bool, Fail> {
-    let (render, source) = (row.text(0)?, row.text(1)?);
-    let value = value_at(alloc, row, 3)?;
-    Ok(value_is_displayed(alloc, &value, render, source)?)
+/// Returns `true` if there is a value, it and the types that display it write the two texts, and its type has this name.
+fn is_displayed(
+    alloc: Global,
+    value: Option<Value>,
+    render: &str,
+    source: &str,
+    name: Option<&str>,
+) -> bool {
+    match value {
+        Some(value) => {
+            value_is_displayed(alloc, &value, render, source)
+                & has_text(alloc, &value, render)
+                & (name == Some(value.type_name()))
+        }
+        None => false,
+    }
 }
 
-/// Returns `true` if the value's own text and the name of its type are the row's.
-fn has_text(alloc: Global, row: &Line) -> Result<bool, Fail> {
-    let (render, kind) = (row.text(0)?, row.text(2)?);
-    let value = value_at(alloc, row, 3)?;
-    let is_text = value.to_kstr(alloc)?.as_str() == render;
-    Ok(is_text & (value.type_name() == kind))
+fn has_texts(alloc: Global, row: &Line) -> bool {
+    match row.text(0).zip(row.text(1)) {
+        Some((render, source)) => {
+            is_displayed(alloc, value_at(alloc, row, 3), render, source, row.text(2))
+        }
+        None => false,
+    }
 }
 
 #[test]
 fn values_have_texts(rt: HostRuntime) -> Result<(), Fail> {
-    rows_hold(rt.alloc(), TEXTS, is_displayed)?;
-    rows_hold(rt.alloc(), TEXTS, has_text)
-}
-
-/// Adds a name after others, with a space between.
-fn add_name(names: &mut String, name: &str) -> Result<(), AllocError> {
-    if !names.is_empty() {
-        names.push_str(" ")?;
-    }
-    names.push_str(name)
-}
-
-/// Writes down the names of the states that a value is in.
-fn add_states(names: &mut String, value: &Value) -> Result<(), AllocError> {
-    for (state, name) in &STATE_NAMES {
-        if value.query_state(*state) {
-            add_name(names, name)?;
-        }
-    }
-    Ok(())
+    rows_hold(rt.alloc(), TEXTS, has_texts)
 }
 
 static STATE_NAMES: [(State, &str); 4] = [
@@ -78,16 +71,25 @@ const STATES: &str = r#"["truthy", 0]
 ["default empty blank", null]
 ["default empty blank", {"state": "truthy"}]"#;
 
-/// Returns `true` if these are the names of the states that a value is in.
-fn has_states(alloc: Global, value: &Value, wanted: &str) -> Result<bool, Fail> {
-    let mut names = String::new(alloc);
-    add_states(&mut names, value)?;
-    Ok(names.as_str() == wanted)
+/// Returns `true` if these are the names of the states that a value is in, in order.
+fn has_states(value: &Value, names: &str) -> bool {
+    let mut rest = names;
+    for (state, name) in &STATE_NAMES {
+        if value.query_state(*state) {
+            match rest.strip_prefix(*name) {
+                Some(after) => rest = after.trim_start(),
+                None => return false,
+            }
+        }
+    }
+    rest.is_empty()
 }
 
-fn is_in_states(alloc: Global, row: &Line) -> Result<bool, Fail> {
-    let wanted = row.text(0)?;
-    has_states(alloc, &value_at(alloc, row, 1)?, wanted)
+fn is_in_states(alloc: Global, row: &Line) -> bool {
+    match value_at(alloc, row, 1) {
+        Some(value) => has_states(&value, row.text(0).unwrap_or("no names")),
+        None => false,
+    }
 }
 
 #[test]

@@ -1,11 +1,10 @@
 //! What values contain, what they are made from, and walks over objects.
-use super::sharing::has_text;
-use super::{insert, value_at, value_in};
-use liquid_scalar::Scalar;
-use liquid_value::map::{IntoIter, Iter, Keys, Values};
-use liquid_value::steps::{
-    step_over_entries, step_over_keys, step_over_owned_entries, step_over_values,
+use super::sharing::{insert_two, push_two};
+use super::walks::{
+    entries_are_walked, names_are_walked, owned_entries_are_walked, values_are_walked,
 };
+use super::{has_text, insert, value_at, value_in};
+use liquid_scalar::Scalar;
 use liquid_value::{Array, Object, State, Value, ValueCow};
 use std::alloc::{AllocError, Global};
 use std::test::Fail;
@@ -18,50 +17,56 @@ const PARTS: &str = r#"["scalar", 1]
 ["state", {"state": "empty"}]
 ["nil", null]"#;
 
-/// Returns `true` if a value gives a scalar.
-fn gives_scalar(value: &Value) -> Result<bool, AllocError> {
-    Ok(value.clone()?.into_scalar().is_some())
+/// Returns `Some(true)` if a copy of a value gives a scalar, and `None` if memory runs out.
+fn gives_scalar(value: &Value) -> Option<bool> {
+    Some(value.clone().ok()?.into_scalar().is_some())
 }
 
-/// Returns `true` if a value gives an array.
-fn gives_array(value: &Value) -> Result<bool, AllocError> {
-    Ok(value.clone()?.into_array().is_some())
+/// Returns `Some(true)` if a copy of a value gives an array, and `None` if memory runs out.
+fn gives_array(value: &Value) -> Option<bool> {
+    Some(value.clone().ok()?.into_array().is_some())
 }
 
-/// Returns `true` if a value gives an object.
-fn gives_object(value: &Value) -> Result<bool, AllocError> {
-    Ok(value.clone()?.into_object().is_some())
+/// Returns `Some(true)` if a copy of a value gives an object, and `None` if memory runs out.
+fn gives_object(value: &Value) -> Option<bool> {
+    Some(value.clone().ok()?.into_object().is_some())
 }
 
-/// Returns `true` if a value gives a state.
-fn gives_state(value: &Value) -> Result<bool, AllocError> {
-    Ok(value.clone()?.into_state().is_some())
+/// Returns `Some(true)` if a copy of a value gives a state, and `None` if memory runs out.
+fn gives_state(value: &Value) -> Option<bool> {
+    Some(value.clone().ok()?.into_state().is_some())
 }
 
 /// Returns `true` if a value gives what it contains if it is of this kind, and nothing if it isn't.
-fn gives(value: &Value, kind: &str) -> Result<bool, AllocError> {
-    let is_scalar = gives_scalar(value)? == (kind == "scalar");
-    let is_array = gives_array(value)? == (kind == "array");
-    let is_object = gives_object(value)? == (kind == "object");
-    let is_state = gives_state(value)? == (kind == "state");
-    Ok(is_scalar & is_array & is_object & is_state)
+fn gives(value: &Value, kind: &str) -> bool {
+    gives_scalar(value) == Some(kind == "scalar")
+        && gives_array(value) == Some(kind == "array")
+        && gives_object(value) == Some(kind == "object")
+        && gives_state(value) == Some(kind == "state")
 }
 
 /// Returns `true` if a value lends what it contains if it is of this kind, and nothing if it isn't.
 fn lends(value: &mut Value, kind: &str) -> bool {
     let (is_array, is_object) = (kind == "array", kind == "object");
-    let is_lent = (value.as_array().is_some() == is_array)
-        & (value.as_object().is_some() == is_object);
-    let is_array_lent = value.as_array_mut().is_some() == is_array;
-    let is_object_lent = value.as_object_mut().is_some() == is_object;
-    is_lent & is_array_lent & is_object_lent
+    (value.as_array().is_some() == is_array)
+        & (value.as_object().is_some() == is_object)
+        & (value.as_array_mut().is_some() == is_array)
+        & (value.as_object_mut().is_some() == is_object)
 }
 
-fn is_of_kind(alloc: Global, row: &Line) -> Result<bool, Fail> {
-    let kind = row.text(0)?;
-    let mut value = value_at(alloc, row, 1)?;
-    let is_lent = lends(&mut value, kind);
-    Ok(gives(&value, kind)? & is_lent)
+/// Returns `true` if there is a value, and it lends and gives what a value of this kind does.
+fn is_kind(value: Option<Value>, kind: &str) -> bool {
+    match value {
+        Some(mut value) => lends(&mut value, kind) & gives(&value, kind),
+        None => false,
+    }
+}
+
+fn is_of_kind(alloc: Global, row: &Line) -> bool {
+    match row.text(0) {
+        Some(kind) => is_kind(value_at(alloc, row, 1), kind),
+        None => false,
+    }
 }
 
 #[test]
@@ -69,78 +74,105 @@ fn values_give_what_they_hold(rt: HostRuntime) -> Result<(), Fail> {
     rows_hold(rt.alloc(), PARTS, is_of_kind)
 }
 
-/// Puts 2 after the items of an array.
-fn push_two(array: &mut Value) -> Result<(), AllocError> {
-    match array.as_array_mut() {
-        Some(items) => Ok(items.to_mut()?.push(Value::scalar(2i64))?),
-        None => Ok(()),
+/// Returns `true` if there is a value, and an item that is put into the array that it lends changes its text to this one.
+fn array_changes(alloc: Global, value: Option<Value>, after: &str) -> bool {
+    match value {
+        Some(mut value) => lent_array_changes(&mut value) & has_text(alloc, &value, after),
+        None => false,
+    }
+}
+
+/// Puts 2 after the items of the array that a value lends, and returns `true` if it could be put there.
+fn lent_array_changes(value: &mut Value) -> bool {
+    match value.as_array_mut() {
+        Some(items) => push_two(items),
+        None => false,
     }
 }
 
 #[test]
 fn arrays_change_in_place(rt: HostRuntime) -> Result<(), Fail> {
     let alloc = rt.alloc();
-    let mut array = value_in(alloc, "[1]")?;
-    push_two(&mut array)?;
-    has_text(alloc, &array, "12")
+    holds(
+        array_changes(alloc, value_in(alloc, "[1]"), "12"),
+        "an item more",
+    )
 }
 
-/// Sets the member `b` of an object to 2.
-fn insert_two(alloc: Global, object: &mut Value) -> Result<(), AllocError> {
-    match object.as_object_mut() {
-        Some(members) => insert(alloc, members.to_mut()?, "b", Value::scalar(2i64)),
-        None => Ok(()),
+/// Returns `true` if there is a value, and a member that is put into the object that it lends changes its text to this one.
+fn object_changes(alloc: Global, value: Option<Value>, after: &str) -> bool {
+    match value {
+        Some(mut value) => lent_object_changes(alloc, &mut value) & has_text(alloc, &value, after),
+        None => false,
+    }
+}
+
+/// Sets the member `b` of the object that a value lends to 2, and returns `true` if it could be set.
+fn lent_object_changes(alloc: Global, value: &mut Value) -> bool {
+    match value.as_object_mut() {
+        Some(members) => insert_two(alloc, members),
+        None => false,
     }
 }
 
 #[test]
 fn objects_change_in_place(rt: HostRuntime) -> Result<(), Fail> {
     let alloc = rt.alloc();
-    let mut object = value_in(alloc, "{\"a\": 1}")?;
-    insert_two(alloc, &mut object)?;
-    has_text(alloc, &object, "a1b2")
+    holds(
+        object_changes(alloc, value_in(alloc, "{\"a\": 1}"), "a1b2"),
+        "a member more",
+    )
 }
 
-fn has_a_clone(alloc: Global, row: &Line) -> Result<bool, Fail> {
-    let value = value_at(alloc, row, 1)?;
-    Ok(value.clone()? == value)
+/// Returns `true` if a value was made and is this one.
+fn is_same(made: Result<Value, AllocError>, value: &Value) -> bool {
+    match made {
+        Ok(made) => made == *value,
+        Err(_) => false,
+    }
 }
 
 /// Returns `true` if a borrowed value is as its clone.
-fn is_cloned(cow: &ValueCow<'_>) -> Result<bool, AllocError> {
-    Ok(cow.clone()? == *cow)
-}
-
-/// Returns `true` if a borrowed value is this value if it is owned.
-fn becomes(cow: ValueCow<'_>, value: &Value) -> Result<bool, AllocError> {
-    Ok(cow.into_owned()? == *value)
+fn is_cloned(cow: &ValueCow<'_>) -> bool {
+    match cow.clone() {
+        Ok(copy) => copy == *cow,
+        Err(_) => false,
+    }
 }
 
 /// Returns `true` if a borrowed value is as the value, and lends what a value of this kind does.
 fn lends_alike(cow: &ValueCow<'_>, value: &Value, kind: &str) -> bool {
-    let is_array = cow.as_array().is_some() == (kind == "array");
-    let is_object = cow.as_object().is_some() == (kind == "object");
-    is_array & is_object & (*cow.as_view() == *value)
+    (cow.as_array().is_some() == (kind == "array"))
+        & (cow.as_object().is_some() == (kind == "object"))
+        & (*cow.as_view() == *value)
 }
 
 /// Returns `true` if a value that is borrowed is as the value, lends what it does, and is its clone if it is owned.
-fn is_borrowed_alike(value: &Value, kind: &str) -> Result<bool, AllocError> {
+fn is_borrowed_alike(value: &Value, kind: &str) -> bool {
     let cow = ValueCow::from(value);
-    let is_lent = lends_alike(&cow, value, kind);
-    let is_cloned = is_cloned(&cow)?;
-    Ok(becomes(cow, value)? & is_lent & is_cloned)
+    lends_alike(&cow, value, kind)
+        & is_cloned(&cow)
+        & is_same(ValueCow::from(value).into_owned(), value)
 }
 
-/// Returns `true` if the value of a row is borrowed alike.
-fn is_borrowed(alloc: Global, row: &Line) -> Result<bool, Fail> {
-    let kind = row.text(0)?;
-    Ok(is_borrowed_alike(&value_at(alloc, row, 1)?, kind)?)
+/// Returns `true` if there is a value, and it is as its clone and is borrowed alike.
+fn is_copied_alike(value: Option<Value>, kind: &str) -> bool {
+    match value {
+        Some(value) => is_same(value.clone(), &value) & is_borrowed_alike(&value, kind),
+        None => false,
+    }
+}
+
+fn is_copied(alloc: Global, row: &Line) -> bool {
+    match row.text(0) {
+        Some(kind) => is_copied_alike(value_at(alloc, row, 1), kind),
+        None => false,
+    }
 }
 
 #[test]
 fn clones_are_the_same_value(rt: HostRuntime) -> Result<(), Fail> {
-    rows_hold(rt.alloc(), PARTS, has_a_clone)?;
-    rows_hold(rt.alloc(), PARTS, is_borrowed)
+    rows_hold(rt.alloc(), PARTS, is_copied)
 }
 
 const ITEMS: &str = "[1, \"a\", null]";
@@ -149,82 +181,104 @@ const NAMED: &str = "{\"b\": 2, \"a\": \"x\"}";
 
 const BLANK: &str = "{\"state\": \"blank\"}";
 
-fn items(alloc: Global) -> Result<Array, Fail> {
-    match value_in(alloc, ITEMS)?.into_array() {
-        Some(items) => Ok(items.into_array()?),
-        None => Err(Fail::from("no array")),
+fn items(alloc: Global) -> Option<Array> {
+    value_in(alloc, ITEMS)?.into_array()?.into_array().ok()
+}
+
+fn named(alloc: Global) -> Option<Object> {
+    value_in(alloc, NAMED)?.into_object()?.into_object().ok()
+}
+
+/// Returns `true` if a value is what a JSON text means.
+fn is_meant(alloc: Global, value: &Value, text: &str) -> bool {
+    match value_in(alloc, text) {
+        Some(wanted) => wanted == *value,
+        None => false,
     }
 }
 
-fn named(alloc: Global) -> Result<Object, Fail> {
-    match value_in(alloc, NAMED)?.into_object() {
-        Some(names) => Ok(names.into_object()?),
-        None => Err(Fail::from("no object")),
+/// Returns `true` if a value was made and is what a JSON text means.
+fn is_json(alloc: Global, made: Option<Value>, text: &str) -> bool {
+    match made {
+        Some(value) => is_meant(alloc, &value, text),
+        None => false,
     }
 }
 
-/// Fails unless a value is what a JSON text means.
-fn is_json(alloc: Global, value: &Value, text: &str) -> Result<(), Fail> {
-    holds(value_in(alloc, text)? == *value, text)
+/// Returns an array that is built of items.
+fn built(alloc: Global) -> Option<Value> {
+    Value::array(alloc, items(alloc)?.into_iter()).ok()
 }
 
-/// Fails unless a borrowed value that is owned is what a JSON text means.
-fn is_owned(alloc: Global, cow: ValueCow<'static>, text: &str) -> Result<(), Fail> {
-    is_json(alloc, &cow.into_owned()?, text)
+fn value_of_items(alloc: Global) -> Option<Value> {
+    Some(Value::from(items(alloc)?))
 }
 
-/// Fails unless values without members are kept.
-fn check_plain(alloc: Global) -> Result<(), Fail> {
-    is_json(alloc, &Value::default(), "null")?;
-    is_json(alloc, &Value::from(State::Blank), BLANK)?;
-    is_json(alloc, &Value::from(Scalar::Integer(1)), "1")
+fn value_of_members(alloc: Global) -> Option<Value> {
+    Some(Value::from(named(alloc)?))
 }
 
-/// Fails unless an array that is built of items has them.
-fn check_items(alloc: Global) -> Result<(), Fail> {
-    let ones = items(alloc)?.into_iter();
-    is_json(alloc, &Value::array(alloc, ones)?, ITEMS)
+/// Returns `true` if values are what they are made from.
+fn values_are_kept(alloc: Global) -> bool {
+    is_json(alloc, Some(Value::default()), "null")
+        && is_json(alloc, Some(Value::from(State::Blank)), BLANK)
+        && is_json(alloc, Some(Value::from(Scalar::Integer(1))), "1")
+        && is_json(alloc, built(alloc), ITEMS)
+        && is_json(alloc, value_of_items(alloc), ITEMS)
+        && is_json(alloc, value_of_members(alloc), NAMED)
 }
 
 #[test]
 fn conversions_keep_the_value(rt: HostRuntime) -> Result<(), Fail> {
-    let alloc = rt.alloc();
-    check_plain(alloc)?;
-    check_items(alloc)?;
-    is_json(alloc, &Value::from(items(alloc)?), ITEMS)?;
-    is_json(alloc, &Value::from(named(alloc)?), NAMED)
+    holds(values_are_kept(rt.alloc()), "the value of each conversion")
 }
 
-/// Fails unless borrowed values without members are kept.
-fn check_plain_cows(alloc: Global) -> Result<(), Fail> {
-    is_owned(alloc, ValueCow::default(), "null")?;
-    is_owned(alloc, ValueCow::from(Value::Nil), "null")?;
-    is_owned(alloc, ValueCow::from(State::Blank), BLANK)?;
-    is_owned(alloc, ValueCow::from(Scalar::Integer(1)), "1")
+/// Returns `true` if a borrowed value that is owned is what a JSON text means.
+fn is_owned(alloc: Global, cow: ValueCow<'static>, text: &str) -> bool {
+    is_json(alloc, cow.into_owned().ok(), text)
+}
+
+fn cow_of_items(alloc: Global) -> Option<Value> {
+    ValueCow::from(items(alloc)?).into_owned().ok()
+}
+
+fn cow_of_members(alloc: Global) -> Option<Value> {
+    ValueCow::from(named(alloc)?).into_owned().ok()
+}
+
+/// Returns `true` if borrowed values are what they are made from.
+fn cows_are_kept(alloc: Global) -> bool {
+    is_owned(alloc, ValueCow::default(), "null")
+        && is_owned(alloc, ValueCow::from(Value::Nil), "null")
+        && is_owned(alloc, ValueCow::from(State::Blank), BLANK)
+        && is_owned(alloc, ValueCow::from(Scalar::Integer(1)), "1")
+        && is_json(alloc, cow_of_items(alloc), ITEMS)
+        && is_json(alloc, cow_of_members(alloc), NAMED)
 }
 
 #[test]
 fn conversions_keep_the_borrowed_value(rt: HostRuntime) -> Result<(), Fail> {
-    let alloc = rt.alloc();
-    check_plain_cows(alloc)?;
-    is_owned(alloc, ValueCow::from(items(alloc)?), ITEMS)?;
-    is_owned(alloc, ValueCow::from(named(alloc)?), NAMED)
+    holds(cows_are_kept(rt.alloc()), "the value of each conversion")
 }
 
-fn two_entries(alloc: Global) -> Result<Object, AllocError> {
+fn two_entries(alloc: Global) -> Option<Object> {
     let mut object = Object::new(alloc);
-    insert(alloc, &mut object, "b", Value::scalar(2i64))?;
-    insert(alloc, &mut object, "a", Value::scalar(1i64))?;
-    Ok(object)
+    if insert(alloc, &mut object, "b", Some(Value::scalar(2i64)))
+        && insert(alloc, &mut object, "a", Some(Value::scalar(1i64)))
+    {
+        Some(object)
+    } else {
+        None
+    }
 }
 
-/// Fails unless an object has two entries, one of which is removed.
-fn has_two_entries(object: &mut Object) -> Result<(), Fail> {
-    holds(object.len() == 2, "two entries")?;
-    let has_names = object.contains_key("a") & !object.contains_key("c");
-    holds(has_names, "its names")?;
-    let is_removed = object.remove("a").is_some() & object.get("a").is_none();
-    holds(is_removed, "a name is gone")
+/// Returns `true` if an object has two entries, and one that is removed is gone.
+fn has_two_entries(object: &mut Object) -> bool {
+    object.len() == 2
+        && object.contains_key("a")
+        && !object.contains_key("c")
+        && object.remove("a").is_some()
+        && object.get("a").is_none()
 }
 
 /// Sets the entry `c` to 3, and then to 4.
@@ -235,103 +289,54 @@ fn set_slot(alloc: Global, object: &mut Object) -> Result<(), AllocError> {
     Ok(())
 }
 
+/// Returns `true` if an entry can be set, and the object has this text then.
+fn is_set(alloc: Global, mut object: Object, text: &str) -> bool {
+    set_slot(alloc, &mut object).is_ok() & has_text(alloc, &Value::from(object), text)
+}
+
+/// Returns `true` if there is an object of two entries, and it is a map.
+fn is_a_map(alloc: Global, made: Option<Object>) -> bool {
+    match made {
+        Some(mut object) => has_two_entries(&mut object) & is_set(alloc, object, "b2c4"),
+        None => false,
+    }
+}
+
 #[test]
 fn objects_are_maps(rt: HostRuntime) -> Result<(), Fail> {
     let alloc = rt.alloc();
-    let mut object = two_entries(alloc)?;
-    has_two_entries(&mut object)?;
-    set_slot(alloc, &mut object)?;
-    has_text(alloc, &Value::from(object), "b2c4")
-}
-
-// How many are left before a step, the name and the text of the entry that it takes, and how many are left then.
-static STEPS: [(usize, Option<&str>, &str, usize); 4] = [
-    (2, Some("a"), "1", 1),
-    (1, Some("b"), "2", 0),
-    (0, None, "", 0),
-    (0, None, "", 0),
-];
-
-/// Fails unless a walk over entries takes the steps.
-fn entries_are_walked(mut entries: Iter<'_>) -> Result<(), Fail> {
-    for (left, name, _, then) in &STEPS {
-        let (before, entry, after) = step_over_entries(&mut entries);
-        let found = entry.map(|(key, _)| key.as_str());
-        let is_step = (before == *left) & (found == *name) & (after == *then);
-        holds(is_step, "a step over entries")?;
-    }
-    Ok(())
+    holds(is_a_map(alloc, two_entries(alloc)), "entries")
 }
 
 #[test]
 fn walks_over_entries_say_how_many_are_left_and_end(rt: HostRuntime) -> Result<(), Fail> {
-    entries_are_walked(two_entries(rt.alloc())?.iter())
-}
-
-/// Fails unless a walk over names takes the steps.
-fn names_are_walked(mut keys: Keys<'_>) -> Result<(), Fail> {
-    for (left, name, _, then) in &STEPS {
-        let (before, key, after) = step_over_keys(&mut keys);
-        let found = key.map(|key| key.as_str());
-        let is_step = (before == *left) & (found == *name) & (after == *then);
-        holds(is_step, "a step over names")?;
-    }
-    Ok(())
+    holds(
+        entries_are_walked(two_entries(rt.alloc())),
+        "each step over entries",
+    )
 }
 
 #[test]
 fn walks_over_names_say_how_many_are_left_and_end(rt: HostRuntime) -> Result<(), Fail> {
-    names_are_walked(two_entries(rt.alloc())?.keys())
-}
-
-/// Returns `true` if a value has this text, or if there is neither.
-fn is_text(alloc: Global, value: Option<&Value>, text: &str) -> Result<bool, AllocError> {
-    match value {
-        Some(value) => Ok(value.to_kstr(alloc)?.as_str() == text),
-        None => Ok(text.is_empty()),
-    }
-}
-
-/// Fails unless a walk over values takes the steps.
-fn values_are_walked(alloc: Global, mut values: Values<'_>) -> Result<(), Fail> {
-    for (left, _, text, then) in &STEPS {
-        let (before, value, after) = step_over_values(&mut values);
-        let is_text = is_text(alloc, value, text)?;
-        let is_step = (before == *left) & is_text & (after == *then);
-        holds(is_step, "a step over values")?;
-    }
-    Ok(())
+    holds(
+        names_are_walked(two_entries(rt.alloc())),
+        "each step over names",
+    )
 }
 
 #[test]
 fn walks_over_values_say_how_many_are_left_and_end(rt: HostRuntime) -> Result<(), Fail> {
-    values_are_walked(rt.alloc(), two_entries(rt.alloc())?.values())
-}
-
-/// Returns `true` if an entry has this name, or if there is neither.
-fn has_name(entry: &Option<(String, Value)>, name: Option<&str>) -> bool {
-    match (entry, name) {
-        (Some((key, _)), Some(name)) => key.as_str() == name,
-        (entry, name) => entry.is_none() && name.is_none(),
-    }
-}
-
-/// Takes a step over owned entries, and returns `true` if it is this one.
-fn takes_step(owned: &mut IntoIter, left: usize, name: Option<&str>, then: usize) -> bool {
-    let (before, entry, after) = step_over_owned_entries(owned);
-    (before == left) & has_name(&entry, name) & (after == then)
-}
-
-/// Fails unless a walk over owned entries takes the steps.
-fn owned_entries_are_walked(owned: &mut IntoIter) -> Result<(), Fail> {
-    for (left, name, _, then) in &STEPS {
-        let is_step = takes_step(owned, *left, *name, *then);
-        holds(is_step, "a step over owned entries")?;
-    }
-    Ok(())
+    let alloc = rt.alloc();
+    holds(
+        values_are_walked(alloc, two_entries(alloc)),
+        "each step over values",
+    )
 }
 
 #[test]
 fn owned_walks_say_how_many_are_left_and_end(rt: HostRuntime) -> Result<(), Fail> {
-    owned_entries_are_walked(&mut two_entries(rt.alloc())?.into_iter())
+    holds(
+        owned_entries_are_walked(two_entries(rt.alloc())),
+        "each step over owned entries",
+    )
 }
