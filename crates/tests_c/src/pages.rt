@@ -177,8 +177,10 @@ fn the_partial_that_is_no_text_is_named(rt: HostRuntime) -> Result<(), Fail> {
         max_bytes: 0,
     };
     let outcome = render(rt.alloc(), &page, &mut [], &mut []);
-    holds(outcome.which == 3, "it is a partial's text")?;
-    holds(outcome.partial == 1, "it is the second partial")
+    holds(
+        outcome.which == 3 && outcome.partial == 1,
+        "it is the text of the second partial",
+    )
 }
 
 #[test]
@@ -202,10 +204,10 @@ fn pages_are_rendered_in_turn(rt: HostRuntime) -> Result<(), Fail> {
         &mut [],
         &mut outcomes,
     );
-    holds(whole == 2, "two pages are whole")?;
-    holds(&out == b"1!seven!#", "whole pages are one after another")?;
-    holds(outcomes[1].kind == 2, "the second page is refused")?;
-    holds(outcomes[2].written == 6, "the third page is written")
+    holds(
+        whole == 2 && &out == b"1!seven!#" && outcomes[1].kind == 2 && outcomes[2].written == 6,
+        "two pages are whole, one after another, and the one between them is refused",
+    )
 }
 
 /// The limits of turns and of bytes, the kind, and what is written.

@@ -1,14 +1,14 @@
 //! Attempts to read a token, and errors of a token and of a cursor.
 use crate::languages::{Check, check_language};
-use crate::rows::{rows_hold_over, texts_at};
+use crate::rows::{pairs_hold, texts_at};
 use crate::tokens::{first_token, tokens_of};
-use crate::told::{displays, is_name, tells};
+use crate::told::{displays, is_done, is_name, tells};
 use liquid_core::parser::{
     Filter, FilterChain, Language, ParseBlock, ParseFilter, ParseTag, PluginRegistry, TagToken,
-    TagTokenIter, TryMatchToken,
+    TryMatchToken,
 };
 use liquid_core::runtime::Renderable;
-use std::alloc::Global;
+use std::alloc::{AllocError, Global};
 use std::test::Fail;
 use tests_lines::{Line, rows_hold};
 
@@ -16,36 +16,29 @@ use tests_lines::{Line, rows_hold};
 /// chain.
 fn is_chain_or_text<X: Filter>(
     alloc: Global,
-    attempt: &TryMatchToken<'_, FilterChain<X>>,
+    attempt: Result<TryMatchToken<'_, FilterChain<X>>, AllocError>,
     text: &str,
-) -> Result<bool, Fail> {
+) -> bool {
     match attempt {
-        TryMatchToken::Matches(chain) => displays(alloc, chain, text),
-        TryMatchToken::Fails(token) => Ok(text.strip_prefix("no chain: ") == Some(token.as_str())),
+        Ok(TryMatchToken::Matches(chain)) => displays(alloc, &chain, text),
+        Ok(TryMatchToken::Fails(token)) => {
+            text.strip_prefix("no chain: ") == Some(token.as_str())
+        }
+        Err(_) => false,
     }
 }
 
-/// Returns `true` if a token shows the chain or the text that is given.
-fn is_tried_as<F: ParseFilter + Drop>(
-    alloc: Global,
-    token: TagToken<'_>,
-    text: &str,
-    filters: &PluginRegistry<F>,
-) -> Result<bool, Fail> {
-    let attempt = token.expect_filter_chain(alloc, filters)?;
-    let is_so = is_chain_or_text(alloc, &attempt, text);
-    drop(attempt);
-    is_so
-}
-
-/// Returns `true` if a row's tag shows the chain or the text of the row.
+/// Returns `true` if a tag's first token shows the chain or the text that is given.
 fn is_tried<F: ParseFilter + Drop>(
     alloc: Global,
-    row: &Line,
+    tag: &str,
+    text: &str,
     filters: &PluginRegistry<F>,
-) -> Result<bool, Fail> {
-    let (tag, text) = texts_at(row, 0, 1)?;
-    is_tried_as(alloc, first_token(alloc, tag)?, text, filters)
+) -> bool {
+    match first_token(alloc, tag) {
+        Ok(token) => is_chain_or_text(alloc, token.expect_filter_chain(alloc, filters), text),
+        Err(_) => false,
+    }
 }
 
 /// A tag, and what its first token shows as a chain, or the token if it is not one.
@@ -68,7 +61,9 @@ impl Check for TriedChains {
         T::Node: Renderable<()>,
         B::Node: Renderable<()>,
     {
-        rows_hold_over(alloc, CHAINS, &language.filters, is_tried)
+        pairs_hold(alloc, CHAINS, |alloc, tag, text| {
+            is_tried(alloc, tag, text, &language.filters)
+        })
     }
 }
 
@@ -78,12 +73,12 @@ fn chains_of_filters_are_tried(rt: HostRuntime) -> Result<(), Fail> {
 }
 
 /// Returns `true` if a token is this name, or its error has this first line.
-fn is_identifier(alloc: Global, token: TagToken<'_>, text: &str) -> Result<bool, Fail> {
+fn is_identifier(alloc: Global, token: TagToken<'_>, text: &str) -> bool {
     is_name(alloc, token.expect_identifier().into_result(alloc), text)
 }
 
-/// Does the same with a message of the plug-in's own.
-fn is_identifier_or_message(alloc: Global, token: TagToken<'_>, text: &str) -> Result<bool, Fail> {
+/// Returns `true` if a token is this name, or its error with a message of the plug-in's own has this first line.
+fn is_identifier_or_message(alloc: Global, token: TagToken<'_>, text: &str) -> bool {
     let attempt = token.expect_identifier();
     is_name(
         alloc,
@@ -93,54 +88,46 @@ fn is_identifier_or_message(alloc: Global, token: TagToken<'_>, text: &str) -> R
 }
 
 /// Returns `true` if this is the first line of an error about a token.
-fn is_refused(alloc: Global, token: TagToken<'_>, line: &str) -> Result<bool, Fail> {
+fn is_refused(alloc: Global, token: TagToken<'_>, line: &str) -> bool {
     tells(
         alloc,
-        token.raise_custom_error(alloc, "No token at all"),
+        &token.raise_custom_error(alloc, "No token at all"),
         line,
     )
 }
 
 /// Returns `true` if this is the first line of an error about the tokens after the first one.
-fn is_refused_after(alloc: Global, mut tokens: TagTokenIter<'_>, line: &str) -> Result<bool, Fail> {
-    let _ = tokens.next();
-    tells(alloc, tokens.raise_error(alloc, "Nothing more"), line)
-}
-
-/// Returns `true` if the attempts at a name have the results of a row.
-fn has_names(alloc: Global, row: &Line) -> Result<bool, Fail> {
-    let token = first_token(alloc, row.text(0)?)?;
-    let (name, message) = texts_at(row, 1, 2)?;
-    if is_identifier(alloc, token, name)? {
-        is_identifier_or_message(alloc, token, message)
-    } else {
-        Ok(false)
+fn is_refused_after(alloc: Global, tag: &str, line: &str) -> bool {
+    match tokens_of(alloc, tag) {
+        Ok(mut tokens) => {
+            let _ = tokens.next();
+            tells(alloc, &tokens.raise_error(alloc, "Nothing more"), line)
+        }
+        Err(_) => false,
     }
 }
 
-/// Returns `true` if the errors about a tag's first token and about the tokens after it are these.
-fn is_refused_as(alloc: Global, tag: &str, line: &str, line_after: &str) -> Result<bool, Fail> {
-    let tokens = tokens_of(alloc, tag)?;
-    let token = first_token(alloc, tag)?;
-    if is_refused(alloc, token, line)? {
-        is_refused_after(alloc, tokens, line_after)
-    } else {
-        Ok(false)
+/// Returns `true` if the attempts at a tag's first token as a name have these results, and an error about the token has
+/// this first line.
+fn has_attempts(alloc: Global, tag: &str, name: &str, message: &str, line: &str) -> bool {
+    match first_token(alloc, tag) {
+        Ok(token) => {
+            is_identifier(alloc, token, name)
+                && is_identifier_or_message(alloc, token, message)
+                && is_refused(alloc, token, line)
+        }
+        Err(_) => false,
     }
-}
-
-/// Returns `true` if the errors about a tag's first token and about the tokens after it are those of a row.
-fn has_refusals(alloc: Global, row: &Line) -> Result<bool, Fail> {
-    let (line, line_after) = texts_at(row, 3, 4)?;
-    is_refused_as(alloc, row.text(0)?, line, line_after)
 }
 
 /// Returns `true` if the attempts have the results of a row.
-fn is_attempted(alloc: Global, row: &Line) -> Result<bool, Fail> {
-    if has_names(alloc, row)? {
-        has_refusals(alloc, row)
-    } else {
-        Ok(false)
+fn is_attempted(alloc: Global, row: &Line) -> bool {
+    match (texts_at(row, 0, 1), texts_at(row, 2, 3), row.text(4)) {
+        (Some((tag, name)), Some((message, line)), Some(line_after)) => {
+            has_attempts(alloc, tag, name, message, line)
+                && is_refused_after(alloc, tag, line_after)
+        }
+        _ => false,
     }
 }
 
@@ -154,22 +141,12 @@ fn a_token_that_does_not_match_is_refused(rt: HostRuntime) -> Result<(), Fail> {
     rows_hold(rt.alloc(), ATTEMPTS, is_attempted)
 }
 
-/// Returns `true` if this is `nothing` and no token is left, or if it is the first line of the error.
-fn is_nothing_or_told(
-    alloc: Global,
-    mut tokens: TagTokenIter<'_>,
-    text: &str,
-) -> Result<bool, Fail> {
-    match tokens.expect_nothing(alloc) {
-        Ok(()) => Ok(text == "nothing"),
-        Err(error) => tells(alloc, error, text),
+/// Returns `true` if a tag has no token and this is `nothing`, or if it is the first line of the error.
+fn is_nothing_or_refused(alloc: Global, tag: &str, text: &str) -> bool {
+    match tokens_of(alloc, tag) {
+        Ok(tokens) => is_done(alloc, tokens.expect_nothing(alloc), "nothing", text),
+        Err(_) => false,
     }
-}
-
-/// Returns `true` if a row has the result of its tag where it should have no token.
-fn is_nothing_or_refused(alloc: Global, row: &Line) -> Result<bool, Fail> {
-    let (tag, text) = texts_at(row, 0, 1)?;
-    is_nothing_or_told(alloc, tokens_of(alloc, tag)?, text)
 }
 
 /// A tag, and the result where it should have no token.
@@ -179,5 +156,5 @@ const NOTHING: &str = r#"["{% t %}", "nothing"]
 
 #[test]
 fn a_token_is_refused_where_none_is_expected(rt: HostRuntime) -> Result<(), Fail> {
-    rows_hold(rt.alloc(), NOTHING, is_nothing_or_refused)
+    pairs_hold(rt.alloc(), NOTHING, is_nothing_or_refused)
 }

@@ -45,25 +45,12 @@ where
     rendered(alloc, block.parse_all(alloc, language)?)
 }
 
-/// Takes an answer. Returns `true` if it is this text, or if its error has this first line.
-fn is_text_or_told(alloc: Global, answer: Result<String, Error>, text: &str) -> Result<bool, Fail> {
+/// Returns `true` if an answer is this text, or if its error has this first line.
+pub(crate) fn is_text_or_told(alloc: Global, answer: Result<String, Error>, text: &str) -> bool {
     match answer {
-        Ok(answer) => Ok(answer.as_str() == text),
-        Err(error) => tells(alloc, error, text),
+        Ok(answer) => answer.as_str() == text,
+        Err(error) => tells(alloc, &error, text),
     }
-}
-
-/// Returns `true` if a row has the result of its body.
-fn is_parsed<F, T, B>(alloc: Global, row: &Line, language: &Language<F, T, B>) -> Result<bool, Fail>
-where
-    F: ParseFilter + Drop,
-    T: ParseTag<F> + Drop,
-    B: ParseBlock<F> + Drop,
-    T::Node: Renderable<()>,
-    B::Node: Renderable<()>,
-{
-    let (body, text) = texts_at(row, 0, 1)?;
-    is_text_or_told(alloc, body_text(alloc, body, language), text)
 }
 
 /// A body, and its result.
@@ -82,8 +69,8 @@ static BODIES: &str = r#"["{% end %}a", ""]
 ["{% box %}a{% endbox %}\n", "liquid: Unclosed block. {% end %} tag expected. (line 2, column 1)"]
 ["{% end 1 %}", "liquid: Unexpected token (line 1, column 8)"]"#;
 
-/// Fails unless the row of a line has the result of its body.
-fn check_body<F, T, B>(alloc: Global, line: &str, language: &Language<F, T, B>) -> Result<(), Fail>
+/// Returns `true` if a row has the result of its body.
+fn is_parsed<F, T, B>(alloc: Global, row: &Line, language: &Language<F, T, B>) -> bool
 where
     F: ParseFilter + Drop,
     T: ParseTag<F> + Drop,
@@ -91,10 +78,25 @@ where
     T::Node: Renderable<()>,
     B::Node: Renderable<()>,
 {
-    let row = Line::of(alloc, line)?;
-    let is_parsed = is_parsed(alloc, &row, language);
-    drop(row);
-    holds(is_parsed?, line)
+    match texts_at(row, 0, 1) {
+        Some((body, text)) => is_text_or_told(alloc, body_text(alloc, body, language), text),
+        None => false,
+    }
+}
+
+/// Returns `true` if the row of a line has the result of its body.
+fn line_is_parsed<F, T, B>(alloc: Global, line: &str, language: &Language<F, T, B>) -> bool
+where
+    F: ParseFilter + Drop,
+    T: ParseTag<F> + Drop,
+    B: ParseBlock<F> + Drop,
+    T::Node: Renderable<()>,
+    B::Node: Renderable<()>,
+{
+    match Line::of(alloc, line) {
+        Some(row) => is_parsed(alloc, &row, language),
+        None => false,
+    }
 }
 
 /// Bodies are parsed up to their ends.
@@ -110,7 +112,7 @@ impl Check for UpToTheirEnds {
         B::Node: Renderable<()>,
     {
         for line in BODIES.lines() {
-            check_body(alloc, line, language)?;
+            holds(line_is_parsed(alloc, line, language), line)?;
         }
         Ok(())
     }
@@ -145,29 +147,16 @@ where
     body_text(alloc, body.as_str(), language)
 }
 
-/// Takes an answer. Returns `true` if it is a text of this length.
+/// Returns `true` if an answer is a text of this length.
 fn has_length(answer: Result<String, Error>, length: usize) -> bool {
     match answer {
         Ok(text) => text.len() == length,
-        Err(error) => {
-            drop(error);
-            false
-        }
+        Err(_) => false,
     }
 }
 
-/// Fails unless 99 boxes in each other write their brackets, and 100 are an error.
-fn check_boxes(
-    alloc: Global,
-    fewer: Result<String, Error>,
-    more: Result<String, Error>,
-) -> Result<(), Fail> {
-    let is_parsed = has_length(fewer, 198);
-    let refusal = "liquid: Nested too deep (line 1, column 895)";
-    let is_refused = is_text_or_told(alloc, more, refusal)?;
-    holds(is_parsed, "99 boxes in each other are parsed")?;
-    holds(is_refused, "100 boxes in each other are refused")
-}
+/// The error of 100 boxes in each other.
+const TOO_DEEP: &str = "liquid: Nested too deep (line 1, column 895)";
 
 /// A cursor counts as one open block.
 struct OpenBlocks;
@@ -181,8 +170,11 @@ impl Check for OpenBlocks {
         T::Node: Renderable<()>,
         B::Node: Renderable<()>,
     {
-        let fewer = boxed_text(alloc, 99, language);
-        check_boxes(alloc, fewer, boxed_text(alloc, 100, language))
+        holds(
+            has_length(boxed_text(alloc, 99, language), 198)
+                && is_text_or_told(alloc, boxed_text(alloc, 100, language), TOO_DEEP),
+            "99 boxes in each other are parsed, and 100 are refused",
+        )
     }
 }
 

@@ -1,8 +1,7 @@
 //! Chains of filters, made by hand.
-use crate::made::{Part, arguments_in, expression, part_in, parts_in};
-use crate::rows::rows_hold_over;
+use crate::made::{arguments_in, path_at};
 use crate::runtimes::{Check, check_over_both};
-use crate::told::{displays, shows};
+use crate::told::displays;
 use bench::filters::{AnyFilter, Filters};
 use liquid_core::model::ValueCow;
 use liquid_core::parser::Filter;
@@ -12,17 +11,13 @@ use liquid_plugins::{Expression, FilterChain, ParseFilter};
 use serde_json::Value as Json;
 use std::alloc::Global;
 use std::test::Fail;
-use tests_lines::Line;
+use tests_lines::{Line, rows_hold};
 
-/// Takes a result. Returns `true` if it is a value that renders as a text, or an error with that text.
-fn is_text(alloc: Global, answer: Result<ValueCow<'_>, Error>, text: &str) -> Result<bool, Fail> {
+/// Returns `true` if a result is a value that renders as a text, or an error with that text.
+pub(crate) fn is_rendered(alloc: Global, answer: Result<ValueCow<'_>, Error>, text: &str) -> bool {
     match answer {
-        Ok(value) => {
-            let displays = displays(alloc, &value.render(), text);
-            drop(value);
-            displays
-        }
-        Err(error) => shows(alloc, error, text),
+        Ok(value) => displays(alloc, &value.render(), text),
+        Err(error) => displays(alloc, &error, text),
     }
 }
 
@@ -41,86 +36,74 @@ static ROWS: &str =
 [5, [], [["append", ["x"]], ["fail", []]], "5 | append | fail", "liquid: Unknown variable\n  with:\n    requested variable=x\nfrom: Filter error\n  with:\n    filter=append\n    input=5\n", "liquid: bad\nfrom: Filter error\n  with:\n    filter=fail\n    input=\"5\"\n"]
 ["x", [], [["fail", []]], "x | fail", "liquid: Unknown variable\n  with:\n    requested variable=x\n", "liquid: bad\nfrom: Filter error\n  with:\n    filter=fail\n    input=nil\n"]"#;
 
-pub(crate) fn filter_named(name: Option<&Json>) -> Result<Filters, Fail> {
+/// Returns the filter of this name, or `None` if no filter has it.
+pub(crate) fn filter_named(name: Option<&Json>) -> Option<Filters> {
     match name {
-        Some(Json::String(name)) if name.as_str() == "append" => Ok(Filters::Append),
-        Some(Json::String(name)) if name.as_str() == "fail" => Ok(Filters::Fail),
-        _ => Err(Fail::from("no filter has this name")),
+        Some(Json::String(name)) if name.as_str() == "append" => Some(Filters::Append),
+        Some(Json::String(name)) if name.as_str() == "fail" => Some(Filters::Fail),
+        _ => None,
     }
-}
-
-/// Returns the path of a part and of the indexes that a row gives.
-fn path_of(alloc: Global, part: Part<'_>, given: &Vec<Json>) -> Result<Expression, Fail> {
-    let indexes = parts_in(alloc, given)?;
-    Ok(expression(alloc, part, indexes.as_slice())?)
-}
-
-fn entry_of(alloc: Global, row: &Line) -> Result<Expression, Fail> {
-    let part = part_in(row.member(0)?)?;
-    path_of(alloc, part, row.list(1)?)
 }
 
 /// Returns the filter of a name with these arguments.
-fn filter_with(alloc: Global, name: Option<&Json>, given: &Vec<Json>) -> Result<AnyFilter, Fail> {
+fn filter_with(alloc: Global, name: Option<&Json>, given: &Vec<Json>) -> Option<AnyFilter> {
     let filter = filter_named(name)?;
-    Ok(filter.parse(alloc, arguments_in(alloc, given)?)?)
+    filter.parse(alloc, arguments_in(alloc, given)?).ok()
 }
 
 /// Returns the filter of a call: a name, and a list of arguments.
-fn filter_of(alloc: Global, call: &Json) -> Result<AnyFilter, Fail> {
+fn filter_of(alloc: Global, call: &Json) -> Option<AnyFilter> {
     match call.get(1) {
         Some(Json::Array(given)) => filter_with(alloc, call.get(0), given),
-        _ => Err(Fail::from("a filter has no arguments")),
+        _ => None,
     }
 }
 
-/// Puts the filters of these calls after others.
-fn push_filters(
-    alloc: Global,
-    filters: &mut Vec<AnyFilter>,
-    calls: &Vec<Json>,
-) -> Result<(), Fail> {
-    for call in calls {
-        filters.push(filter_of(alloc, call)?)?;
+/// Adds a filter to others. Returns `false` if there is none, or if memory runs out.
+fn add_filter(filters: &mut Vec<AnyFilter>, filter: Option<AnyFilter>) -> bool {
+    match filter {
+        Some(filter) => filters.push(filter).is_ok(),
+        None => false,
     }
-    Ok(())
 }
 
-/// Returns the filters of a row.
-fn filters_of(alloc: Global, row: &Line) -> Result<Vec<AnyFilter>, Fail> {
-    let calls = row.list(2)?;
+/// Returns the filters of these calls, or `None` if a call has none.
+fn filters_of(alloc: Global, calls: &Vec<Json>) -> Option<Vec<AnyFilter>> {
     let mut filters = Vec::new(alloc);
-    push_filters(alloc, &mut filters, calls)?;
-    Ok(filters)
+    for call in calls {
+        if !add_filter(&mut filters, filter_of(alloc, call)) {
+            return None;
+        }
+    }
+    Some(filters)
 }
 
-fn chain_of(alloc: Global, row: &Line) -> Result<FilterChain<AnyFilter>, Fail> {
-    let filters = filters_of(alloc, row)?;
-    match entry_of(alloc, row) {
-        Ok(entry) => Ok(FilterChain::new(entry, filters)),
-        Err(fail) => {
-            drop(filters);
-            Err(fail)
-        }
+/// Returns the chain of a row, or `None` for a row without one.
+fn chain_of(alloc: Global, row: &Line) -> Option<FilterChain<AnyFilter>> {
+    let filters = filters_of(alloc, row.list(2)?)?;
+    match path_at(alloc, row, 0) {
+        Some(entry) => Some(FilterChain::new(entry, filters)),
+        None => None,
     }
 }
 
 /// Returns the result of the chain of a row with strict names, or with lenient ones.
-fn expected(row: &Line, lenient: bool) -> Result<&str, Fail> {
-    match row.found_text(5) {
-        Some(text) if lenient => Ok(text),
+fn expected(row: &Line, is_lenient: bool) -> Option<&str> {
+    match row.text(5) {
+        Some(text) if is_lenient => Some(text),
         _ => row.text(4),
     }
 }
 
-/// Returns `true` if a text is the result of a chain.
-fn comes_to<X: Filter, R: Runtime>(
+/// Returns `true` if a chain shows a text and has this result.
+fn has_result<X: Filter, R: Runtime>(
     alloc: Global,
     chain: &FilterChain<X>,
-    text: &str,
+    shown: &str,
+    answer: &str,
     runtime: &R,
-) -> Result<bool, Fail> {
-    is_text(alloc, chain.evaluate(alloc, runtime), text)
+) -> bool {
+    displays(alloc, chain, shown) && is_rendered(alloc, chain.evaluate(alloc, runtime), answer)
 }
 
 /// Returns `true` if a chain shows the text and has the result of its row.
@@ -129,22 +112,19 @@ fn is_as_told<X: Filter, R: Runtime>(
     chain: &FilterChain<X>,
     row: &Line,
     runtime: &R,
-) -> Result<bool, Fail> {
-    let shown = row.text(3)?;
-    let answer = expected(row, runtime.is_lenient())?;
-    if displays(alloc, chain, shown)? {
-        comes_to(alloc, chain, answer, runtime)
-    } else {
-        Ok(false)
+) -> bool {
+    match (row.text(3), expected(row, runtime.is_lenient())) {
+        (Some(shown), Some(answer)) => has_result(alloc, chain, shown, answer, runtime),
+        _ => false,
     }
 }
 
 /// Returns `true` if the chain of a row is as the row says.
-fn chain_is_as_told<R: Runtime>(alloc: Global, row: &Line, runtime: &R) -> Result<bool, Fail> {
-    let chain = chain_of(alloc, row)?;
-    let is_as_told = is_as_told(alloc, &chain, row, runtime);
-    drop(chain);
-    is_as_told
+fn chain_is_as_told<R: Runtime>(alloc: Global, row: &Line, runtime: &R) -> bool {
+    match chain_of(alloc, row) {
+        Some(chain) => is_as_told(alloc, &chain, row, runtime),
+        None => false,
+    }
 }
 
 /// Chains come to their values.
@@ -152,7 +132,11 @@ struct ComeToValues;
 
 impl Check for ComeToValues {
     fn check<R: Runtime>(&self, alloc: Global, runtime: &R) -> Result<(), Fail> {
-        rows_hold_over(alloc, ROWS, runtime, chain_is_as_told)
+        rows_hold(
+            alloc,
+            ROWS,
+            |alloc, row| chain_is_as_told(alloc, row, runtime),
+        )
     }
 }
 
@@ -169,42 +153,33 @@ fn is_same(tried: &Option<ValueCow<'_>>, value: &ValueCow<'_>, is_lenient: bool)
     }
 }
 
-/// Takes a result. Returns `true` if what was tried is the result, or nothing if that is an error, or is nil because
-/// names are lenient.
+/// Returns `true` if what was tried is the result, or nothing if that is an error, or is nil because names are lenient.
 fn is_alike(
     tried: &Option<ValueCow<'_>>,
     answer: Result<ValueCow<'_>, Error>,
     is_lenient: bool,
 ) -> bool {
     match answer {
-        Ok(value) => {
-            let is_same = is_same(tried, &value, is_lenient);
-            drop(value);
-            is_same
-        }
-        Err(error) => {
-            drop(error);
-            tried.is_none()
-        }
+        Ok(value) => is_same(tried, &value, is_lenient),
+        Err(_) => tried.is_none(),
     }
 }
 
 /// Returns `true` if trying an entry gives what evaluating it does, or nothing if that is an error, or is nil because
 /// names are lenient.
-fn is_tried<R: Runtime>(alloc: Global, entry: &Expression, runtime: &R) -> Result<bool, Fail> {
-    let tried = entry.try_evaluate(alloc, runtime)?;
-    let answer = entry.evaluate(alloc, runtime);
-    let is_alike = is_alike(&tried, answer, runtime.is_lenient());
-    drop(tried);
-    Ok(is_alike)
+fn is_tried<R: Runtime>(alloc: Global, entry: &Expression, runtime: &R) -> bool {
+    match entry.try_evaluate(alloc, runtime) {
+        Ok(tried) => is_alike(&tried, entry.evaluate(alloc, runtime), runtime.is_lenient()),
+        Err(_) => false,
+    }
 }
 
 /// Returns `true` if the entry of a row is tried alike.
-fn entry_is_tried<R: Runtime>(alloc: Global, row: &Line, runtime: &R) -> Result<bool, Fail> {
-    let entry = entry_of(alloc, row)?;
-    let is_tried = is_tried(alloc, &entry, runtime);
-    drop(entry);
-    is_tried
+fn entry_is_tried<R: Runtime>(alloc: Global, row: &Line, runtime: &R) -> bool {
+    match path_at(alloc, row, 0) {
+        Some(entry) => is_tried(alloc, &entry, runtime),
+        None => false,
+    }
 }
 
 /// What is tried is not refused.
@@ -212,7 +187,11 @@ struct AreTried;
 
 impl Check for AreTried {
     fn check<R: Runtime>(&self, alloc: Global, runtime: &R) -> Result<(), Fail> {
-        rows_hold_over(alloc, ROWS, runtime, entry_is_tried)
+        rows_hold(
+            alloc,
+            ROWS,
+            |alloc, row| entry_is_tried(alloc, row, runtime),
+        )
     }
 }
 

@@ -1,11 +1,11 @@
 //! Bodies of blocks, with the elements that the cursor returns, and escaped bodies.
-use crate::rows::texts_at;
+use crate::rows::pairs_hold;
 use crate::told::{is_name, tells, told};
 use liquid_core::Error;
 use liquid_core::parser::{BlockElement, TagBlock};
 use std::alloc::{AllocError, Global};
 use std::test::Fail;
-use tests_lines::{Line, holds, rows_hold};
+use tests_lines::{Line, holds, is_text, rows_hold};
 
 /// Returns the kind of an element and its text.
 fn shown(alloc: Global, element: BlockElement<'_>) -> Result<String, AllocError> {
@@ -34,7 +34,7 @@ fn add_next(
     match next {
         Ok(Some(element)) => push(texts, shown(alloc, element)),
         Ok(None) => Ok(()),
-        Err(error) => push(texts, told(alloc, error)),
+        Err(error) => push(texts, told(alloc, &error)),
     }
 }
 
@@ -61,10 +61,9 @@ fn handed_out(alloc: Global, body: &str) -> Result<String, AllocError> {
     texts.join(alloc, " / ")
 }
 
-/// Returns `true` if a row has the elements of its body.
-fn hands_out(alloc: Global, row: &Line) -> Result<bool, Fail> {
-    let (body, answer) = texts_at(row, 0, 1)?;
-    Ok(handed_out(alloc, body)?.as_str() == answer)
+/// Returns `true` if these are the elements of a body.
+fn hands_out(alloc: Global, body: &str, elements: &str) -> bool {
+    is_text(handed_out(alloc, body), elements)
 }
 
 /// A body, and its elements.
@@ -79,48 +78,44 @@ const HANDED_OUT: &str = r#"["{% end %}a", "closed"]
 
 #[test]
 fn elements_are_handed_out_in_their_order(rt: HostRuntime) -> Result<(), Fail> {
-    rows_hold(rt.alloc(), HANDED_OUT, hands_out)
+    pairs_hold(rt.alloc(), HANDED_OUT, hands_out)
 }
 
-/// Returns `true` if the next element of a body without its end is an error at its end.
-fn is_refused_at_its_end(alloc: Global, block: &mut TagBlock<'_, '_>) -> Result<bool, Fail> {
+/// Returns `true` if a body has a next element.
+fn has_next(alloc: Global, block: &mut TagBlock<'_, '_>) -> bool {
+    match block.next(alloc) {
+        Ok(next) => next.is_some(),
+        Err(_) => false,
+    }
+}
+
+/// Returns `true` if the next element of a body without its end is an error at its end, and the body stays open.
+fn is_refused_at_its_end(alloc: Global, block: &mut TagBlock<'_, '_>) -> bool {
     let refusal = "liquid: Unclosed block. {% end %} tag expected. (line 2, column 3)";
     match block.next(alloc) {
-        Ok(_) => Ok(false),
-        Err(error) => tells(alloc, error, refusal),
+        Ok(_) => false,
+        Err(error) => tells(alloc, &error, refusal) && !block.is_closed(),
     }
-}
-
-/// Fails unless a body without its end has a text and then an error at its end, and stays open.
-fn check_end(alloc: Global, block: &mut TagBlock<'_, '_>) -> Result<(), Fail> {
-    holds(block.next(alloc)?.is_some(), "the text is handed out")?;
-    for _ in 0..2 {
-        let is_refused = is_refused_at_its_end(alloc, block)?;
-        holds(
-            is_refused && !block.is_closed(),
-            "the body is refused at its end",
-        )?;
-    }
-    Ok(())
 }
 
 #[test]
 fn a_body_without_its_end_is_refused_at_its_end(rt: HostRuntime) -> Result<(), Fail> {
     let mut block = TagBlock::new("é\nab", "start", "end");
-    check_end(rt.alloc(), &mut block)
+    holds(
+        has_next(rt.alloc(), &mut block)
+            && is_refused_at_its_end(rt.alloc(), &mut block)
+            && is_refused_at_its_end(rt.alloc(), &mut block),
+        "a text is handed out, and then an error at the end, twice",
+    )
 }
 
 /// Returns `true` if a text is the escaped body of a block, or the first line of its error.
-fn escapes_to(
-    alloc: Global,
-    block: &mut TagBlock<'_, '_>,
-    nests: bool,
-    text: &str,
-) -> Result<bool, Fail> {
+fn escapes_to(alloc: Global, block: &mut TagBlock<'_, '_>, nests: bool, text: &str) -> bool {
     if block.is_closed() {
-        return Ok(text == "closed before");
+        text == "closed before"
+    } else {
+        is_name(alloc, block.escape_liquid(alloc, nests), text)
     }
-    is_name(alloc, block.escape_liquid(alloc, nests), text)
 }
 
 /// Returns a cursor over the body of a block `raw`, after that many elements.
@@ -133,15 +128,23 @@ fn passed_by<'a>(alloc: Global, body: &'a str, passed: i64) -> TagBlock<'a, 'sta
 }
 
 /// Returns `true` if a row has the result of a block, and says whether the block is closed then.
-fn is_escaped_so(alloc: Global, block: &mut TagBlock<'_, '_>, row: &Line) -> Result<bool, Fail> {
-    let is_text = escapes_to(alloc, block, row.truth(2)?, row.text(3)?)?;
-    Ok((block.is_closed() == row.truth(4)?) & is_text)
+fn is_escaped_so(alloc: Global, block: &mut TagBlock<'_, '_>, row: &Line) -> bool {
+    match (row.truth(2), row.text(3), row.truth(4)) {
+        (Some(nests), Some(text), Some(is_closed)) => {
+            escapes_to(alloc, block, nests, text) && block.is_closed() == is_closed
+        }
+        _ => false,
+    }
 }
 
 /// Returns `true` if a row has the result of its body, and says whether the block is closed then.
-fn is_escaped(alloc: Global, row: &Line) -> Result<bool, Fail> {
-    let mut block = passed_by(alloc, row.text(0)?, row.number(1)?);
-    is_escaped_so(alloc, &mut block, row)
+fn is_escaped(alloc: Global, row: &Line) -> bool {
+    match (row.text(0), row.number(1)) {
+        (Some(body), Some(passed)) => {
+            is_escaped_so(alloc, &mut passed_by(alloc, body, passed), row)
+        }
+        _ => false,
+    }
 }
 
 /// A body, how many elements are passed before, whether starts nest, the escaped text or the error, and whether the

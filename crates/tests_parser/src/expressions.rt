@@ -1,9 +1,7 @@
 //! Expressions and paths, made by hand.
-use crate::made::{Name, Word, expression, list_of, part_of, text};
-use crate::rows::equals;
+use crate::made::{list_of, named, path, word};
 use crate::runtimes::{Check, check_over};
-use crate::told::{displays, is_answer, shows};
-use liquid_core::ValueView;
+use crate::told::{displays, is_answer};
 use liquid_core::model::{Scalar, Value};
 use liquid_core::runtime::Runtime;
 use liquid_plugins::{Expression, Variable};
@@ -11,35 +9,37 @@ use std::alloc::{AllocError, Global};
 use std::test::Fail;
 use tests_lines::holds;
 
-/// Returns the path `foo[0]`.
-fn short_path(alloc: Global) -> Result<Variable, AllocError> {
-    Variable::with_literal(alloc, text(alloc, "foo")?).push_literal(0i64)
+/// Returns the path of a name without indexes.
+fn path_to(alloc: Global, name: &str) -> Result<Variable, AllocError> {
+    Ok(Variable::with_literal(alloc, String::from_str(alloc, name)?))
 }
 
 /// Returns the path `foo[0]["bar"]`.
 fn literal_path(alloc: Global) -> Result<Variable, AllocError> {
-    let index = text(alloc, "bar")?;
-    short_path(alloc)?.push_literal(index)
+    let index = String::from_str(alloc, "bar")?;
+    path_to(alloc, "foo")?
+        .push_literal(0i64)?
+        .push_literal(index)
 }
 
-/// Adds the index `foo["bar"]` after the indexes.
-fn add_path(alloc: Global, variable: &mut Variable) -> Result<(), AllocError> {
-    let path = expression(alloc, Name("foo"), &[Word("bar")])?;
-    variable.extend(list_of(alloc, path)?)
+/// Returns the path `foo["bar"]` as an index.
+fn path_index(alloc: Global) -> Result<Vec<Expression>, AllocError> {
+    let indexes = list_of(alloc, word(alloc, "bar")?)?;
+    list_of(alloc, path(alloc, "foo", indexes)?)
 }
 
-/// Adds the indexes 7 and true after the indexes.
-fn add_scalars(alloc: Global, variable: &mut Variable) -> Result<(), AllocError> {
+/// Returns the indexes 7 and true.
+fn scalars(alloc: Global) -> Result<Vec<Scalar>, AllocError> {
     let mut scalars = Vec::new(alloc);
     scalars.push(Scalar::from(7i64))?;
     scalars.push(Scalar::from(true))?;
-    variable.extend(scalars)
+    Ok(scalars)
 }
 
 /// Adds a path and two scalars after the indexes.
 fn add_indexes(alloc: Global, variable: &mut Variable) -> Result<(), AllocError> {
-    add_path(alloc, variable)?;
-    add_scalars(alloc, variable)
+    variable.extend(path_index(alloc)?)?;
+    variable.extend(scalars(alloc)?)
 }
 
 /// Returns the path `foo[0]["bar"][foo["bar"]][7][true]`.
@@ -49,175 +49,148 @@ fn long_path(alloc: Global) -> Result<Variable, AllocError> {
     Ok(variable)
 }
 
-/// Returns `true` if a copy of a path equals it.
-fn copy_is_equal(variable: &Variable) -> Result<bool, AllocError> {
-    Ok(equals(variable.clone()?, variable))
-}
-
 /// Returns a copy of a path as an expression.
 fn as_expression(variable: &Variable) -> Result<Expression, AllocError> {
     Ok(Expression::Variable(variable.clone()?))
 }
 
-/// Returns `true` if the expression of a path is this one.
-fn is_expression(variable: &Variable, expression: &Expression) -> Result<bool, AllocError> {
-    Ok(equals(as_expression(variable)?, expression))
-}
-
-/// Takes an expression. Returns `true` if the expression of a path is this one.
-fn becomes(
-    variable: &Variable,
-    expression: Result<Expression, AllocError>,
-) -> Result<bool, AllocError> {
-    let expression = expression?;
-    let is_expression = is_expression(variable, &expression);
-    drop(expression);
-    is_expression
-}
-
-/// Returns `true` if a value was taken out.
-fn is_there<T: Drop>(taken: Option<T>) -> bool {
-    match taken {
-        Some(taken) => {
-            drop(taken);
-            true
-        }
-        None => false,
+/// Returns `true` if a copy of a path equals it.
+fn copy_is_equal(variable: &Variable) -> bool {
+    match variable.clone() {
+        Ok(copy) => copy == *variable,
+        Err(_) => false,
     }
 }
 
-/// Returns `true` if what was taken out equals a value.
-fn is_taken_as<T: PartialEq + Drop>(taken: Option<T>, value: &T) -> bool {
-    match taken {
-        Some(taken) => equals(taken, value),
-        None => false,
+/// Returns `true` if the expression of a path was made, and equals another expression if it should.
+fn compares(variable: &Variable, other: &Expression, is_equal: bool) -> bool {
+    match as_expression(variable) {
+        Ok(expression) => (expression == *other) == is_equal,
+        Err(_) => false,
+    }
+}
+
+/// Returns `true` if an expression was made, and the expression of a path equals it if it should.
+fn becomes(
+    variable: &Variable,
+    expression: Result<Expression, AllocError>,
+    is_equal: bool,
+) -> bool {
+    match expression {
+        Ok(expression) => compares(variable, &expression, is_equal),
+        Err(_) => false,
     }
 }
 
 /// Returns `true` if the expression of a path has no literal.
-fn has_no_literal(variable: &Variable) -> Result<bool, AllocError> {
-    Ok(!is_there(as_expression(variable)?.into_literal()))
+fn has_no_literal(variable: &Variable) -> bool {
+    match as_expression(variable) {
+        Ok(expression) => expression.into_literal().is_none(),
+        Err(_) => false,
+    }
+}
+
+/// Returns `true` if what was taken out of an expression is this path.
+fn is_path(taken: Option<Variable>, variable: &Variable) -> bool {
+    match taken {
+        Some(taken) => taken == *variable,
+        None => false,
+    }
 }
 
 /// Returns `true` if the path is taken out of its expression again.
-fn is_taken_out(variable: &Variable) -> Result<bool, AllocError> {
-    Ok(is_taken_as(as_expression(variable)?.into_variable(), variable))
+fn is_taken_out(variable: &Variable) -> bool {
+    match as_expression(variable) {
+        Ok(expression) => is_path(expression.into_variable(), variable),
+        Err(_) => false,
+    }
 }
 
-/// Returns `true` if the expression of the text `a` shows it in quotes.
-fn literal_shows(alloc: Global) -> Result<bool, Fail> {
-    shows(alloc, part_of(alloc, Word("a"))?, "\"a\"")
-}
-
-/// Returns the text `a` as a value.
-fn letter(alloc: Global) -> Result<Value, AllocError> {
-    Ok(Value::scalar(text(alloc, "a")?))
-}
-
-/// Returns `true` if a value is taken out of the expression of the text `a`.
-fn is_literal(alloc: Global, value: &Value) -> Result<bool, Fail> {
-    let literal = part_of(alloc, Word("a"))?;
-    Ok(is_taken_as(literal.into_literal(), value))
-}
-
-/// Returns `true` if the text `a` is taken out of its expression.
-fn literal_is_taken_out(alloc: Global) -> Result<bool, Fail> {
-    let letter = letter(alloc)?;
-    let is_literal = is_literal(alloc, &letter);
-    drop(letter);
-    is_literal
-}
-
-/// Returns `true` if a path is copied and compared as it shows.
-fn is_copied_and_compared(alloc: Global, variable: &Variable) -> Result<bool, AllocError> {
-    let is_copied = copy_is_equal(variable)?;
-    let is_equal = becomes(variable, as_expression(variable))?;
-    Ok(!becomes(variable, part_of(alloc, Name("foo")))? & is_copied & is_equal)
-}
-
-/// Fails unless the path shows, and is copied, compared and taken as an expression.
-fn is_an_expression(alloc: Global, variable: &Variable) -> Result<(), Fail> {
-    let shown = "foo[0][\"bar\"][foo[\"bar\"]][7][true]";
-    holds(
-        displays(alloc, variable, shown)?,
-        "the path shows its indexes",
-    )?;
-    holds(
-        is_copied_and_compared(alloc, variable)?,
-        "the path is copied and compared",
-    )?;
-    holds(
-        has_no_literal(variable)? & is_taken_out(variable)?,
-        "the path has no literal, and is taken out of its expression",
-    )
+/// Returns `true` if a path shows, and is copied, compared and taken out of its expression.
+fn is_an_expression(alloc: Global, variable: &Variable) -> bool {
+    displays(alloc, variable, "foo[0][\"bar\"][foo[\"bar\"]][7][true]")
+        && copy_is_equal(variable)
+        && becomes(variable, as_expression(variable), true)
+        && becomes(variable, named(alloc, "foo"), false)
+        && has_no_literal(variable)
+        && is_taken_out(variable)
 }
 
 #[test]
 fn expressions_are_copied_compared_and_taken_apart(rt: HostRuntime) -> Result<(), Fail> {
-    is_an_expression(rt.alloc(), &long_path(rt.alloc())?)
+    holds(
+        is_an_expression(rt.alloc(), &long_path(rt.alloc())?),
+        "the path shows, and is copied, compared and taken apart",
+    )
 }
 
-/// Fails unless the text `a` shows in quotes, and is taken out of its expression.
-fn check_literal(alloc: Global) -> Result<(), Fail> {
-    holds(literal_shows(alloc)?, "the text shows in quotes")?;
-    holds(
-        literal_is_taken_out(alloc)?,
-        "the text is taken out of its expression",
-    )
+/// Returns `true` if what was taken out of an expression is the text `a`.
+fn is_letter(alloc: Global, taken: &Value) -> bool {
+    match String::from_str(alloc, "a") {
+        Ok(letter) => *taken == Value::scalar(letter),
+        Err(_) => false,
+    }
+}
+
+/// Returns `true` if the text `a` is taken out of its expression.
+fn literal_is_taken_out(alloc: Global, literal: Expression) -> bool {
+    match literal.into_literal() {
+        Some(taken) => is_letter(alloc, &taken),
+        None => false,
+    }
+}
+
+/// Returns `true` if the text `a` shows in quotes, and is taken out of its expression.
+fn is_literal(alloc: Global, literal: Expression) -> bool {
+    displays(alloc, &literal, "\"a\"") && literal_is_taken_out(alloc, literal)
 }
 
 #[test]
 fn a_literal_shows_in_quotes_and_is_taken_out(rt: HostRuntime) -> Result<(), Fail> {
-    check_literal(rt.alloc())
+    holds(
+        is_literal(rt.alloc(), word(rt.alloc(), "a")?),
+        "the text shows in quotes, and is taken out of its expression",
+    )
 }
 
-/// Adds a variable after the indexes.
-fn add_index(alloc: Global, variable: &mut Variable, name: &'static str) -> Result<(), AllocError> {
-    let index = part_of(alloc, Name(name))?;
-    variable.extend(list_of(alloc, index)?)
+/// Returns the variable of a name as an index.
+fn index_of(alloc: Global, name: &str) -> Result<Vec<Expression>, AllocError> {
+    list_of(alloc, named(alloc, name)?)
 }
 
-/// Returns `true` if there is a value if a path is tried.
-fn is_found<R: Runtime>(alloc: Global, variable: &Variable, runtime: &R) -> Result<bool, Fail> {
-    Ok(is_there(variable.try_evaluate(alloc, runtime)?))
-}
-
-/// Returns `true` if the value of a path is a text, and there is a value if it is tried.
-fn leads_to<R: Runtime>(
-    alloc: Global,
-    variable: &Variable,
-    path: &str,
-    runtime: &R,
-) -> Result<bool, Fail> {
-    if is_answer(alloc, variable.evaluate(alloc, runtime), path)? {
-        is_found(alloc, variable, runtime)
-    } else {
-        Ok(false)
+/// Adds a variable after the indexes. Returns `false` if memory runs out.
+fn add_index(alloc: Global, variable: &mut Variable, name: &str) -> bool {
+    match index_of(alloc, name) {
+        Ok(index) => variable.extend(index).is_ok(),
+        Err(_) => false,
     }
 }
 
-/// Returns `true` if a path is an error, and there is no value if it is tried.
-fn leads_nowhere<R: Runtime>(
-    alloc: Global,
-    variable: &Variable,
-    runtime: &R,
-) -> Result<bool, Fail> {
-    let is_evaluated = is_there(variable.evaluate(alloc, runtime).ok());
-    Ok(!is_found(alloc, variable, runtime)? & !is_evaluated)
+/// Returns `true` if there is a value when a path is tried, or none if there should be none.
+fn is_found<R: Runtime>(alloc: Global, variable: &Variable, is_there: bool, runtime: &R) -> bool {
+    match variable.try_evaluate(alloc, runtime) {
+        Ok(found) => found.is_some() == is_there,
+        Err(_) => false,
+    }
 }
 
-/// Fails unless a path `box` is tried index by index.
-fn is_tried<R: Runtime>(alloc: Global, variable: &mut Variable, runtime: &R) -> Result<(), Fail> {
-    add_index(alloc, variable, "word")?;
-    holds(
-        leads_to(alloc, variable, "box.part", runtime)?,
-        "box[word] leads to box.part",
-    )?;
-    add_index(alloc, variable, "one")?;
-    holds(
-        leads_nowhere(alloc, variable, runtime)?,
-        "box[word][one] leads nowhere",
-    )
+/// Returns `true` if the value of a path is a text, and there is a value if it is tried.
+fn leads_to<R: Runtime>(alloc: Global, variable: &Variable, path: &str, runtime: &R) -> bool {
+    is_answer(alloc, variable.evaluate(alloc, runtime), path)
+        && is_found(alloc, variable, true, runtime)
+}
+
+/// Returns `true` if a path is an error, and there is no value if it is tried.
+fn leads_nowhere<R: Runtime>(alloc: Global, variable: &Variable, runtime: &R) -> bool {
+    variable.evaluate(alloc, runtime).is_err() && is_found(alloc, variable, false, runtime)
+}
+
+/// Returns `true` if `box[word]` leads to `box.part`, and `box[word][one]` leads nowhere.
+fn is_tried<R: Runtime>(alloc: Global, variable: &mut Variable, runtime: &R) -> bool {
+    add_index(alloc, variable, "word")
+        && leads_to(alloc, variable, "box.part", runtime)
+        && add_index(alloc, variable, "one")
+        && leads_nowhere(alloc, variable, runtime)
 }
 
 /// A path is tried index by index.
@@ -225,10 +198,10 @@ struct IndexByIndex;
 
 impl Check for IndexByIndex {
     fn check<R: Runtime>(&self, alloc: Global, runtime: &R) -> Result<(), Fail> {
-        let mut variable = Variable::with_literal(alloc, text(alloc, "box")?);
-        let is_tried = is_tried(alloc, &mut variable, runtime);
-        drop(variable);
-        is_tried
+        holds(
+            is_tried(alloc, &mut path_to(alloc, "box")?, runtime),
+            "box[word] leads to box.part, and box[word][one] leads nowhere",
+        )
     }
 }
 

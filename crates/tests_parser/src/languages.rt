@@ -18,17 +18,14 @@ pub(crate) trait Check {
 
 /// Returns a copy of the plain language.
 fn copied(alloc: Global) -> Result<Language<Filters, Tags, Blocks>, AllocError> {
-    let language = language(alloc)?;
-    let copy: Result<_, _> = language.clone();
-    drop(language);
-    copy
+    language(alloc)?.clone()
 }
 
-/// Checks a copy of the plain language. No other function here names it in a call that is generic in the language: each that does is
-/// checked against all that its plug-ins promise.
+/// Checks a copy of the plain language. No other function here names it in a call that is generic in the language: each
+/// that does is checked against all that its plug-ins promise.
 pub(crate) fn check_language<C: Check>(alloc: Global, check: &C) -> Result<(), Fail> {
-    let language = copied(alloc)?;
-    let checked = check.check(alloc, &language);
-    drop(language);
-    checked
+    match copied(alloc) {
+        Ok(language) => check.check(alloc, &language),
+        Err(failed) => Err(Fail::from(failed)),
+    }
 }

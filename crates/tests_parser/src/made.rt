@@ -3,115 +3,102 @@ use liquid_core::model::Scalar;
 use liquid_plugins::{Expression, FilterArguments, Variable};
 use serde_json::Value as Json;
 use std::alloc::{AllocError, Global};
-use std::test::Fail;
+use tests_lines::Line;
 
-pub(crate) fn text(alloc: Global, text: &str) -> Result<String, AllocError> {
-    String::from_str(alloc, text)
+/// Returns a text as an expression.
+pub(crate) fn word(alloc: Global, word: &str) -> Result<Expression, AllocError> {
+    Ok(Expression::with_literal(String::from_str(alloc, word)?))
 }
 
-/// A part of an expression.
-#[derive(Clone, Copy)]
-pub(crate) enum Part<'a> {
-    Number(i64),
-    Word(&'a str),
-    Name(&'a str),
-}
-
-pub(crate) use Part::{Name, Number, Word};
-
-pub(crate) fn part_of(alloc: Global, part: Part<'_>) -> Result<Expression, AllocError> {
-    Ok(match part {
-        Number(number) => Expression::with_literal(number),
-        Word(word) => Expression::with_literal(text(alloc, word)?),
-        Name(name) => Expression::Variable(Variable::with_literal(alloc, text(alloc, name)?)),
-    })
-}
-
-/// Returns the part that a row gives: a whole number, `{"text": ".."}`, or a name.
-pub(crate) fn part_in(given: &Json) -> Result<Part<'_>, Fail> {
-    if let Some(Json::String(word)) = given.get("text") {
-        return Ok(Word(word.as_str()));
-    }
-    match (given.as_str(), given.as_i64()) {
-        (Some(name), _) => Ok(Name(name)),
-        (None, Some(number)) => Ok(Number(number)),
-        (None, None) => Err(Fail::from("a row gives no part of an expression")),
-    }
-}
-
-/// Puts the parts that a row gives after others.
-fn push_parts<'j>(parts: &mut Vec<Part<'j>>, given: &'j Vec<Json>) -> Result<(), Fail> {
-    for part in given {
-        parts.push(part_in(part)?)?;
-    }
-    Ok(())
-}
-
-pub(crate) fn parts_in(alloc: Global, given: &Vec<Json>) -> Result<Vec<Part<'_>>, Fail> {
-    let mut parts = Vec::new(alloc);
-    push_parts(&mut parts, given)?;
-    Ok(parts)
-}
-
-/// Puts the expressions of parts after others.
-fn push_each(
-    alloc: Global,
-    expressions: &mut Vec<Expression>,
-    parts: &[Part<'_>],
-) -> Result<(), AllocError> {
-    for part in parts {
-        expressions.push(part_of(alloc, *part)?)?;
-    }
-    Ok(())
-}
-
-/// Returns the expressions of parts.
-fn each_of(alloc: Global, parts: &[Part<'_>]) -> Result<Vec<Expression>, AllocError> {
-    let mut expressions = Vec::new(alloc);
-    push_each(alloc, &mut expressions, parts)?;
-    Ok(expressions)
+/// Returns the variable of a name as an expression.
+pub(crate) fn named(alloc: Global, name: &str) -> Result<Expression, AllocError> {
+    let name = String::from_str(alloc, name)?;
+    Ok(Expression::Variable(Variable::with_literal(alloc, name)))
 }
 
 /// Returns the expression of a name and indexes.
-fn path_of(alloc: Global, name: &str, indexes: &[Part<'_>]) -> Result<Expression, AllocError> {
-    let name = text(alloc, name)?;
-    let indexes = each_of(alloc, indexes)?;
-    Ok(Expression::of_parts(Scalar::from(name), indexes))
-}
-
-pub(crate) fn expression(
+pub(crate) fn path(
     alloc: Global,
-    entry: Part<'_>,
-    indexes: &[Part<'_>],
+    name: &str,
+    indexes: Vec<Expression>,
 ) -> Result<Expression, AllocError> {
-    match entry {
-        Name(name) => path_of(alloc, name, indexes),
-        literal => part_of(alloc, literal),
-    }
+    Ok(Expression::of_parts(Scalar::from(String::from_str(alloc, name)?), indexes))
 }
 
-pub(crate) fn arguments(
-    alloc: Global,
-    parts: &[Part<'_>],
-) -> Result<FilterArguments<'static>, AllocError> {
-    Ok(FilterArguments {
-        positional: each_of(alloc, parts)?,
-        keyword: Vec::new(alloc),
-    })
-}
-
-/// Returns the arguments that a row gives.
-pub(crate) fn arguments_in(
-    alloc: Global,
-    given: &Vec<Json>,
-) -> Result<FilterArguments<'static>, Fail> {
-    let parts = parts_in(alloc, given)?;
-    Ok(arguments(alloc, parts.as_slice())?)
-}
-
-/// Returns a list of one item.
-pub(crate) fn list_of<T: Drop>(alloc: Global, item: T) -> Result<Vec<T>, AllocError> {
+/// Returns a list of one expression.
+pub(crate) fn list_of(alloc: Global, item: Expression) -> Result<Vec<Expression>, AllocError> {
     let mut items = Vec::new(alloc);
     items.push(item)?;
     Ok(items)
+}
+
+/// Returns the expression that a row gives, or `None` if it gives none: a whole number, `{"text": ".."}`, or a name.
+fn part_in(alloc: Global, given: &Json) -> Option<Expression> {
+    match (given.get("text"), given.as_str(), given.as_i64()) {
+        (Some(Json::String(text)), _, _) => word(alloc, text.as_str()).ok(),
+        (None, Some(name), _) => named(alloc, name).ok(),
+        (None, None, Some(number)) => Some(Expression::with_literal(number)),
+        _ => None,
+    }
+}
+
+/// Returns the path of a name and one index.
+fn short_path_in(alloc: Global, name: &str, index: &Json) -> Option<Expression> {
+    let index = part_in(alloc, index)?;
+    path(alloc, name, list_of(alloc, index).ok()?).ok()
+}
+
+/// Returns the index that a row gives, or `None` if it gives none: a part, or a list of a name and its index.
+fn index_in(alloc: Global, given: &Json) -> Option<Expression> {
+    match (given.get(0), given.get(1)) {
+        (Some(Json::String(name)), Some(index)) => short_path_in(alloc, name.as_str(), index),
+        _ => part_in(alloc, given),
+    }
+}
+
+/// Adds an index to others. Returns `false` if there is none, or if memory runs out.
+fn add_index(indexes: &mut Vec<Expression>, index: Option<Expression>) -> bool {
+    match index {
+        Some(index) => indexes.push(index).is_ok(),
+        None => false,
+    }
+}
+
+/// Returns the indexes that a row gives, or `None` if one of them is no index.
+fn indexes_in(alloc: Global, given: &Vec<Json>) -> Option<Vec<Expression>> {
+    let mut indexes = Vec::new(alloc);
+    for index in given {
+        if !add_index(&mut indexes, index_in(alloc, index)) {
+            return None;
+        }
+    }
+    Some(indexes)
+}
+
+/// Returns the path of an entry and indexes, or `None` if the entry or an index is none. A literal has no indexes.
+fn path_in(alloc: Global, entry: &Json, indexes: &Vec<Json>) -> Option<Expression> {
+    match entry.as_str() {
+        Some(name) => path(alloc, name, indexes_in(alloc, indexes)?).ok(),
+        None if indexes.is_empty() => part_in(alloc, entry),
+        None => None,
+    }
+}
+
+/// Returns the path whose entry is at a place of a row, and whose indexes are at the next one.
+pub(crate) fn path_at(alloc: Global, row: &Line, place: usize) -> Option<Expression> {
+    match (row.member(place), row.list(place.saturating_add(1))) {
+        (Some(entry), Some(indexes)) => path_in(alloc, entry, indexes),
+        _ => None,
+    }
+}
+
+/// Returns the arguments that a row gives, or `None` if one of them is none.
+pub(crate) fn arguments_in(alloc: Global, given: &Vec<Json>) -> Option<FilterArguments<'static>> {
+    match indexes_in(alloc, given) {
+        Some(positional) => Some(FilterArguments {
+            positional,
+            keyword: Vec::new(alloc),
+        }),
+        None => None,
+    }
 }

@@ -1,59 +1,61 @@
 //! Elements of bodies, parsed one by one.
-use crate::blocks::rendered;
+use crate::blocks::{is_text_or_told, rendered};
 use crate::languages::{Check, check_language};
 use crate::told::tells;
 use liquid_core::Error;
 use liquid_core::parser::{
-    BlockElement, InvalidLiquidToken, Language, Node, ParseBlock, ParseFilter, ParseTag, Tag,
+    BlockElement, InvalidLiquidToken, Language, Node, ParseBlock, ParseFilter, ParseTag, Raw, Tag,
     TagBlock,
 };
 use liquid_core::runtime::Renderable;
-use std::alloc::{AllocError, Global};
+use std::alloc::Global;
 use std::test::Fail;
-use tests_lines::{holds, same};
+use tests_lines::holds;
 
-/// Adds a node that was read after others.
+/// Adds a node that was read after others. Returns `false` if reading it failed.
 fn push<X: Drop, N: Drop, K: Drop>(
     nodes: &mut Vec<Node<X, N, K>>,
     node: Result<Node<X, N, K>, Error>,
-) -> Result<(), Error> {
-    nodes.push(node?)?;
-    Ok(())
+) -> bool {
+    match node {
+        Ok(node) => nodes.push(node).is_ok(),
+        Err(_) => false,
+    }
 }
 
-/// Adds the node of the next element after others, if there is one.
+/// Adds the node of the next element after others. Returns `false` if there is none.
 fn add_next<F, T, B>(
     alloc: Global,
     nodes: &mut Vec<Node<F::Filter, T::Node, B::Node>>,
     block: &mut TagBlock<'_, '_>,
     language: &Language<F, T, B>,
-) -> Result<(), Error>
+) -> bool
 where
     F: ParseFilter + Drop,
     T: ParseTag<F> + Drop,
     B: ParseBlock<F> + Drop,
 {
-    match block.next(alloc)? {
-        Some(element) => push(nodes, element.parse(alloc, block, language)),
-        None => Ok(()),
+    match block.next(alloc) {
+        Ok(Some(element)) => push(nodes, element.parse(alloc, block, language)),
+        _ => false,
     }
 }
 
-/// Adds the node of the next element after others, if it is an expression.
+/// Adds the node of the next element after others. Returns `false` if it is no expression.
 fn add_expression<F, T, B>(
     alloc: Global,
     nodes: &mut Vec<Node<F::Filter, T::Node, B::Node>>,
     block: &mut TagBlock<'_, '_>,
     language: &Language<F, T, B>,
-) -> Result<(), Error>
+) -> bool
 where
     F: ParseFilter + Drop,
     T: ParseTag<F> + Drop,
     B: ParseBlock<F> + Drop,
 {
-    match block.next(alloc)? {
-        Some(BlockElement::Expression(exp)) => push(nodes, exp.parse(alloc, language)),
-        _ => Ok(()),
+    match block.next(alloc) {
+        Ok(Some(BlockElement::Expression(exp))) => push(nodes, exp.parse(alloc, language)),
+        _ => false,
     }
 }
 
@@ -63,16 +65,17 @@ fn add_four<F, T, B>(
     nodes: &mut Vec<Node<F::Filter, T::Node, B::Node>>,
     block: &mut TagBlock<'_, '_>,
     language: &Language<F, T, B>,
-) -> Result<(), Error>
+) -> bool
 where
     F: ParseFilter + Drop,
     T: ParseTag<F> + Drop,
     B: ParseBlock<F> + Drop,
 {
-    for _ in 0..3 {
-        add_next(alloc, nodes, block, language)?;
-    }
-    add_expression(alloc, nodes, block, language)
+    add_next(alloc, nodes, block, language)
+        && add_next(alloc, nodes, block, language)
+        && add_next(alloc, nodes, block, language)
+        && add_expression(alloc, nodes, block, language)
+        && nodes.len() == 4
 }
 
 /// Returns `true` if the next four elements have four nodes, which write a text.
@@ -81,7 +84,7 @@ fn four_come_to<F, T, B>(
     block: &mut TagBlock<'_, '_>,
     text: &str,
     language: &Language<F, T, B>,
-) -> Result<bool, Error>
+) -> bool
 where
     F: ParseFilter + Drop,
     T: ParseTag<F> + Drop,
@@ -90,16 +93,8 @@ where
     B::Node: Renderable<()>,
 {
     let mut nodes: Vec<Node<F::Filter, T::Node, B::Node>> = Vec::new(alloc);
-    match add_four(alloc, &mut nodes, block, language) {
-        Ok(()) => {
-            let are_four = nodes.len() == 4;
-            Ok((rendered(alloc, nodes)?.as_str() == text) & are_four)
-        }
-        Err(error) => {
-            drop(nodes);
-            Err(error)
-        }
-    }
+    add_four(alloc, &mut nodes, block, language)
+        && is_text_or_told(alloc, rendered(alloc, nodes), text)
 }
 
 /// Returns `true` if a cursor has no element more, and is closed.
@@ -107,43 +102,16 @@ fn is_at_end<F, T, B>(
     alloc: Global,
     block: &mut TagBlock<'_, '_>,
     language: &Language<F, T, B>,
-) -> Result<bool, Error>
+) -> bool
 where
     F: ParseFilter + Drop,
     T: ParseTag<F> + Drop,
     B: ParseBlock<F> + Drop,
 {
-    match block.parse_next(alloc, language)? {
-        Some(node) => {
-            drop(node);
-            Ok(false)
-        }
-        None => Ok(block.is_closed()),
+    match block.parse_next(alloc, language) {
+        Ok(None) => block.is_closed(),
+        _ => false,
     }
-}
-
-/// Fails unless the four elements of a cursor are parsed one by one to a text, and the cursor stays closed then.
-fn check_one_by_one<F, T, B>(
-    alloc: Global,
-    block: &mut TagBlock<'_, '_>,
-    text: &str,
-    language: &Language<F, T, B>,
-) -> Result<(), Fail>
-where
-    F: ParseFilter + Drop,
-    T: ParseTag<F> + Drop,
-    B: ParseBlock<F> + Drop,
-    T::Node: Renderable<()>,
-    B::Node: Renderable<()>,
-{
-    holds(
-        four_come_to(alloc, block, text, language)?,
-        "four elements are parsed one by one",
-    )?;
-    holds(
-        is_at_end(alloc, block, language)? && is_at_end(alloc, block, language)?,
-        "the cursor stays closed",
-    )
 }
 
 /// Elements are parsed one by one.
@@ -160,7 +128,12 @@ impl Check for OneByOne {
     {
         let body = "a{{ 5 }}{% box %}b{% endbox %}{{ 6 }}{% end %}";
         let mut block = TagBlock::new(body, "start", "end");
-        check_one_by_one(alloc, &mut block, "a5[b]6", language)
+        holds(
+            four_come_to(alloc, &mut block, "a5[b]6", language)
+                && is_at_end(alloc, &mut block, language)
+                && is_at_end(alloc, &mut block, language),
+            "four elements are parsed one by one, and then the cursor stays closed",
+        )
     }
 }
 
@@ -169,18 +142,15 @@ fn elements_are_parsed_one_by_one(rt: HostRuntime) -> Result<(), Fail> {
     check_language(rt.alloc(), &OneByOne)
 }
 
-/// Takes a node that was read. Returns `true` if reading it was an error with this first line.
+/// Returns `true` if reading a node was an error with this first line.
 fn is_refused_as<X: Drop, N: Drop, K: Drop>(
     alloc: Global,
     read: Result<Node<X, N, K>, Error>,
     refusal: &str,
-) -> Result<bool, Fail> {
+) -> bool {
     match read {
-        Ok(node) => {
-            drop(node);
-            Ok(false)
-        }
-        Err(error) => tells(alloc, error, refusal),
+        Ok(_) => false,
+        Err(error) => tells(alloc, &error, refusal),
     }
 }
 
@@ -191,7 +161,7 @@ fn token_is_refused<F, T, B>(
     block: &mut TagBlock<'_, '_>,
     refusal: &str,
     _language: &Language<F, T, B>,
-) -> Result<bool, Fail>
+) -> bool
 where
     F: ParseFilter + Drop,
     T: ParseTag<F> + Drop,
@@ -207,29 +177,29 @@ fn brace_is_refused<F, T, B>(
     block: &mut TagBlock<'_, '_>,
     refusal: &str,
     language: &Language<F, T, B>,
-) -> Result<bool, Fail>
+) -> bool
 where
     F: ParseFilter + Drop,
     T: ParseTag<F> + Drop,
     B: ParseBlock<F> + Drop,
 {
-    match block.next(alloc)? {
-        Some(BlockElement::Invalid(token)) => {
+    match block.next(alloc) {
+        Ok(Some(BlockElement::Invalid(token))) => {
             token_is_refused(alloc, token, block, refusal, language)
         }
-        _ => Ok(false),
+        _ => false,
     }
 }
 
-/// Adds the first node of a body, which is a text, after others.
+/// Adds the node of a text after others. Returns `false` if memory runs out.
 fn add_raw<X: Drop, N: Drop, K: Drop>(
     alloc: Global,
     nodes: &mut Vec<Node<X, N, K>>,
-    block: &mut TagBlock<'_, '_>,
-) -> Result<(), Error> {
-    match block.next(alloc)? {
-        Some(BlockElement::Raw(raw)) => push(nodes, Ok(raw.into_renderable(alloc)?)),
-        _ => Ok(()),
+    raw: Raw<'_>,
+) -> bool {
+    match raw.into_renderable(alloc) {
+        Ok(node) => nodes.push(node).is_ok(),
+        Err(_) => false,
     }
 }
 
@@ -238,9 +208,11 @@ fn add_text<X: Drop, N: Drop, K: Drop>(
     alloc: Global,
     nodes: &mut Vec<Node<X, N, K>>,
     body: &str,
-) -> Result<(), Error> {
-    let mut block = TagBlock::new(body, "start", "end");
-    add_raw(alloc, nodes, &mut block)
+) -> bool {
+    match TagBlock::new(body, "start", "end").next(alloc) {
+        Ok(Some(BlockElement::Raw(raw))) => add_raw(alloc, nodes, raw),
+        _ => false,
+    }
 }
 
 /// Adds the node of a tag `box` alone, whose body lies in a cursor, and the node of a text `b` after it.
@@ -249,24 +221,27 @@ fn add_box<F, T, B>(
     nodes: &mut Vec<Node<F::Filter, T::Node, B::Node>>,
     block: &mut TagBlock<'_, '_>,
     language: &Language<F, T, B>,
-) -> Result<(), Error>
+) -> bool
 where
     F: ParseFilter + Drop,
     T: ParseTag<F> + Drop,
     B: ParseBlock<F> + Drop,
 {
-    let tag = Tag::new(alloc, "{% box %}")?;
-    push(nodes, tag.parse(alloc, block, language))?;
-    add_text(alloc, nodes, "b{% end %}")
+    match Tag::new(alloc, "{% box %}") {
+        Ok(tag) => {
+            push(nodes, tag.parse(alloc, block, language)) && add_text(alloc, nodes, "b{% end %}")
+        }
+        Err(_) => false,
+    }
 }
 
-/// Fails unless the node of a tag `box` alone, whose body lies in a cursor, and the node after it write a text.
-fn check_box<F, T, B>(
+/// Returns `true` if the node of a tag `box` alone, whose body lies in a cursor, and the node after it write a text.
+fn box_comes_to<F, T, B>(
     alloc: Global,
     block: &mut TagBlock<'_, '_>,
     text: &str,
     language: &Language<F, T, B>,
-) -> Result<(), Fail>
+) -> bool
 where
     F: ParseFilter + Drop,
     T: ParseTag<F> + Drop,
@@ -275,34 +250,8 @@ where
     B::Node: Renderable<()>,
 {
     let mut nodes: Vec<Node<F::Filter, T::Node, B::Node>> = Vec::new(alloc);
-    match add_box(alloc, &mut nodes, block, language) {
-        Ok(()) => same(rendered(alloc, nodes)?.as_str(), text),
-        Err(error) => {
-            drop(nodes);
-            Err(Fail::from(error))
-        }
-    }
-}
-
-/// Fails unless a cursor has the body of a tag `box` alone, and then a brace that is refused.
-fn check_box_and_brace<F, T, B>(
-    alloc: Global,
-    block: &mut TagBlock<'_, '_>,
-    language: &Language<F, T, B>,
-) -> Result<(), Fail>
-where
-    F: ParseFilter + Drop,
-    T: ParseTag<F> + Drop,
-    B: ParseBlock<F> + Drop,
-    T::Node: Renderable<()>,
-    B::Node: Renderable<()>,
-{
-    check_box(alloc, block, "[a]b", language)?;
-    let refusal = "liquid: Invalid liquid (line 1, column 14)";
-    holds(
-        brace_is_refused(alloc, block, refusal, language)?,
-        "the brace after the box is refused",
-    )
+    add_box(alloc, &mut nodes, block, language)
+        && is_text_or_told(alloc, rendered(alloc, nodes), text)
 }
 
 /// A tag alone takes its body from a cursor.
@@ -318,7 +267,12 @@ impl Check for BodyInCursor {
         B::Node: Renderable<()>,
     {
         let mut block = TagBlock::new("a{% endbox %}{{% end %}", "start", "end");
-        check_box_and_brace(alloc, &mut block, language)
+        let refusal = "liquid: Invalid liquid (line 1, column 14)";
+        holds(
+            box_comes_to(alloc, &mut block, "[a]b", language)
+                && brace_is_refused(alloc, &mut block, refusal, language),
+            "a box has its body in the cursor, and the brace after it is refused",
+        )
     }
 }
 

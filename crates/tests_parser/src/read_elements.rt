@@ -1,6 +1,7 @@
 //! Calls of the parser that no other crate's tests make by name.
 use crate::languages::{Check, check_language};
-use crate::told::shows;
+use crate::rows::pairs_hold;
+use crate::told::displays;
 use liquid_core::Error;
 use liquid_core::parser::{
     BlockElement, InvalidLiquidToken, Language, Node, ParseBlock, ParseFilter, ParseTag, Tag,
@@ -9,7 +10,7 @@ use liquid_core::parser::{
 use liquid_core::runtime::Renderable;
 use std::alloc::Global;
 use std::test::Fail;
-use tests_lines::{holds, same};
+use tests_lines::holds;
 
 /// Returns the kind of a node.
 fn kind_of<X, N, K>(node: &Node<X, N, K>) -> &'static str {
@@ -20,19 +21,15 @@ fn kind_of<X, N, K>(node: &Node<X, N, K>) -> &'static str {
     }
 }
 
-/// Takes a node that was read. Returns `true` if it is of a kind, or if the text of the error is this one.
+/// Returns `true` if a node that was read is of a kind, or if the text of the error is this one.
 fn is_kind<X: Drop, N: Drop, K: Drop>(
     alloc: Global,
     read: Result<Node<X, N, K>, Error>,
     kind: &str,
-) -> Result<bool, Fail> {
+) -> bool {
     match read {
-        Ok(node) => {
-            let is_kind = kind_of(&node) == kind;
-            drop(node);
-            Ok(is_kind)
-        }
-        Err(error) => shows(alloc, error, kind),
+        Ok(node) => kind_of(&node) == kind,
+        Err(error) => displays(alloc, &error, kind),
     }
 }
 
@@ -56,12 +53,7 @@ where
 }
 
 /// Returns `true` if the first element of a body is read as a kind of node, or the text of the error is this one.
-fn is_read_as<F, T, B>(
-    alloc: Global,
-    body: &str,
-    kind: &str,
-    language: &Language<F, T, B>,
-) -> Result<bool, Fail>
+fn is_read_as<F, T, B>(alloc: Global, body: &str, kind: &str, language: &Language<F, T, B>) -> bool
 where
     F: ParseFilter + Drop,
     T: ParseTag<F> + Drop,
@@ -72,13 +64,11 @@ where
 }
 
 /// Bodies, and what the first element of each is read as.
-static ROWS: [(&str, &str); 5] = [
-    ("{% set g 1 %}", "tag"),
-    ("{% box %}a{% endbox %}", "block"),
-    ("text", "other"),
-    ("{{ 1 }}", "other"),
-    ("{{ ! }}", "liquid: Invalid liquid (line 1, column 1)\n"),
-];
+static ROWS: &str = r#"["{% set g 1 %}", "tag"]
+["{% box %}a{% endbox %}", "block"]
+["text", "other"]
+["{{ 1 }}", "other"]
+["{{ ! }}", "liquid: Invalid liquid (line 1, column 1)\n"]"#;
 
 /// Elements are read one by one.
 struct ReadElements;
@@ -92,10 +82,11 @@ impl Check for ReadElements {
         T::Node: Renderable<()>,
         B::Node: Renderable<()>,
     {
-        for (body, kind) in &ROWS {
-            holds(is_read_as(alloc, body, kind, language)?, body)?;
-        }
-        Ok(())
+        pairs_hold(
+            alloc,
+            ROWS,
+            |alloc, body, kind| is_read_as(alloc, body, kind, language),
+        )
     }
 }
 
@@ -104,32 +95,39 @@ fn elements_are_read_one_by_one(rt: HostRuntime) -> Result<(), Fail> {
     check_language(rt.alloc(), &ReadElements)
 }
 
-/// Fails unless an error has this text.
-fn has_text(alloc: Global, error: &Error, text: &str) -> Result<(), Fail> {
-    same(error.to_string(alloc)?.as_str(), text)
+/// Returns `true` if an error about the place of some tokens has this text.
+fn raises_error(alloc: Global, tokens: &TagTokenIter<'_>, text: &str) -> bool {
+    displays(alloc, &TagTokenIter::raise_error(tokens, alloc, "m"), text)
 }
 
-/// Takes an error. Fails unless it has this text.
-fn check_text(alloc: Global, error: Error, text: &str) -> Result<(), Fail> {
-    let checked = has_text(alloc, &error, text);
-    drop(error);
-    checked
+/// Returns `true` if an error about the next token has this text.
+fn next_raises_error(alloc: Global, tokens: &mut TagTokenIter<'_>, text: &str) -> bool {
+    match TagTokenIter::expect_next(tokens, alloc, "none") {
+        Ok(token) => displays(alloc, &TagToken::raise_error(token, alloc), text),
+        Err(_) => false,
+    }
 }
 
-/// Fails unless errors about a tag's place and about its token have their texts.
-fn check_errors(alloc: Global) -> Result<(), Fail> {
-    let mut tokens: TagTokenIter<'_> = Tag::new(alloc, "{% t 1 %}")?.into_tokens();
-    let error = TagTokenIter::raise_error(&tokens, alloc, "m");
-    check_text(alloc, error, "liquid: m (line 1, column 5)\n")?;
-    let token = TagTokenIter::expect_next(&mut tokens, alloc, "none")?;
-    check_text(
-        alloc,
-        TagToken::raise_error(token, alloc),
-        "liquid: Unexpected token (line 1, column 6)\n",
-    )
+/// Returns `true` if errors about a tag's place and about its token have their texts.
+fn raise_errors(alloc: Global) -> bool {
+    match Tag::new(alloc, "{% t 1 %}") {
+        Ok(tag) => {
+            let mut tokens: TagTokenIter<'_> = tag.into_tokens();
+            raises_error(alloc, &tokens, "liquid: m (line 1, column 5)\n")
+                && next_raises_error(
+                    alloc,
+                    &mut tokens,
+                    "liquid: Unexpected token (line 1, column 6)\n",
+                )
+        }
+        Err(_) => false,
+    }
 }
 
 #[test]
 fn tokens_raise_errors_at_their_place(rt: HostRuntime) -> Result<(), Fail> {
-    check_errors(rt.alloc())
+    holds(
+        raise_errors(rt.alloc()),
+        "errors have the places of their tokens",
+    )
 }

@@ -1,40 +1,44 @@
 //! What tags and blocks say about themselves.
 use crate::languages::{Check, check_language};
-use crate::rows::{rows_hold_over, texts_at};
+use crate::rows::has_text;
 use liquid_core::parser::{
     BlockReflection, Language, ParseBlock, ParseFilter, ParseTag, PluginRegistry, TagReflection,
 };
 use liquid_core::runtime::Renderable;
 use std::alloc::Global;
 use std::test::Fail;
-use tests_lines::Line;
+use tests_lines::{Line, rows_hold};
+
+/// Returns `true` if a row has null at a place.
+fn has_null(row: &Line, place: usize) -> bool {
+    match row.member(place) {
+        Some(member) => member.is_null(),
+        None => false,
+    }
+}
 
 /// Returns `true` if a text that may be given is what a row has at a place: a text, or null.
-fn is_told(told: Option<&str>, row: &Line, place: usize) -> Result<bool, Fail> {
-    Ok(match told {
-        Some(text) => text == row.text(place)?,
-        None => row.member(place)?.is_null(),
-    })
+fn is_told(told: Option<&str>, row: &Line, place: usize) -> bool {
+    match told {
+        Some(text) => has_text(row, place, text),
+        None => has_null(row, place),
+    }
 }
 
 /// Returns `true` if a block has the tags, the description, the example and the spec of a row.
-fn block_is_told<B: BlockReflection>(block: &B, row: &Line) -> Result<bool, Fail> {
-    let (start, end) = texts_at(row, 0, 1)?;
-    let has_tags = block.start_tag() == start && block.end_tag() == end;
-    let is_described = block.description() == row.text(2)?;
-    let has_example = is_told(block.example(), row, 3)?;
-    Ok(is_told(block.spec(), row, 4)? & has_tags & is_described & has_example)
+fn block_is_told<B: BlockReflection>(block: &B, row: &Line) -> bool {
+    has_text(row, 0, block.start_tag())
+        && has_text(row, 1, block.end_tag())
+        && has_text(row, 2, block.description())
+        && is_told(block.example(), row, 3)
+        && is_told(block.spec(), row, 4)
 }
 
 /// Returns `true` if the block that a row names is registered, and says what the row says.
-fn has_block<B: BlockReflection + Drop>(
-    _alloc: Global,
-    row: &Line,
-    blocks: &PluginRegistry<B>,
-) -> Result<bool, Fail> {
-    match blocks.get(row.text(0)?) {
+fn has_block<B: BlockReflection + Drop>(row: &Line, blocks: &PluginRegistry<B>) -> bool {
+    match blocks.get(row.text(0).unwrap_or("")) {
         Some(block) => block_is_told(block, row),
-        None => Ok(false),
+        None => false,
     }
 }
 
@@ -55,7 +59,7 @@ impl Check for TellBlocks {
         T::Node: Renderable<()>,
         B::Node: Renderable<()>,
     {
-        rows_hold_over(alloc, BLOCKS, &language.blocks, has_block)
+        rows_hold(alloc, BLOCKS, |_, row| has_block(row, &language.blocks))
     }
 }
 
@@ -65,22 +69,18 @@ fn blocks_tell_what_they_are(rt: HostRuntime) -> Result<(), Fail> {
 }
 
 /// Returns `true` if a tag has the name, the description, the example and the spec of a row.
-fn tag_is_told<T: TagReflection>(tag: &T, row: &Line) -> Result<bool, Fail> {
-    let (name, description) = texts_at(row, 0, 1)?;
-    let is_described = tag.tag() == name && tag.description() == description;
-    let has_example = is_told(tag.example(), row, 2)?;
-    Ok(is_told(tag.spec(), row, 3)? & is_described & has_example)
+fn tag_is_told<T: TagReflection>(tag: &T, row: &Line) -> bool {
+    has_text(row, 0, tag.tag())
+        && has_text(row, 1, tag.description())
+        && is_told(tag.example(), row, 2)
+        && is_told(tag.spec(), row, 3)
 }
 
 /// Returns `true` if the tag that a row names is registered, and says what the row says.
-fn has_tag<T: TagReflection + Drop>(
-    _alloc: Global,
-    row: &Line,
-    tags: &PluginRegistry<T>,
-) -> Result<bool, Fail> {
-    match tags.get(row.text(0)?) {
+fn has_tag<T: TagReflection + Drop>(row: &Line, tags: &PluginRegistry<T>) -> bool {
+    match tags.get(row.text(0).unwrap_or("")) {
         Some(tag) => tag_is_told(tag, row),
-        None => Ok(false),
+        None => false,
     }
 }
 
@@ -100,7 +100,7 @@ impl Check for TellTags {
         T::Node: Renderable<()>,
         B::Node: Renderable<()>,
     {
-        rows_hold_over(alloc, TAGS, &language.tags, has_tag)
+        rows_hold(alloc, TAGS, |_, row| has_tag(row, &language.tags))
     }
 }
 

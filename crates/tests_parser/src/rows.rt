@@ -1,34 +1,34 @@
-//! Rows of a table, and what is asked of each.
+//! Rows of a table, and what a test checks in each.
 use std::alloc::Global;
 use std::test::Fail;
-use tests_lines::{Line, holds};
+use tests_lines::{Line, rows_hold};
 
-/// Fails for the first row of a table that does not pass the test over a registry or a runtime.
-pub(crate) fn rows_hold_over<X, H: Fn(Global, &Line, &X) -> Result<bool, Fail>>(
+/// Returns the texts at two places, or `None` for a row without them.
+pub(crate) fn texts_at(row: &Line, one: usize, other: usize) -> Option<(&str, &str)> {
+    match (row.text(one), row.text(other)) {
+        (Some(one), Some(other)) => Some((one, other)),
+        _ => None,
+    }
+}
+
+/// Returns `true` if a row has this text at a place.
+pub(crate) fn has_text(row: &Line, place: usize, text: &str) -> bool {
+    match row.text(place) {
+        Some(found) => found == text,
+        None => false,
+    }
+}
+
+/// Fails for the first row of a table of pairs of texts that does not pass the test or is no such pair.
+pub(crate) fn pairs_hold<F: Fn(Global, &str, &str) -> bool>(
     alloc: Global,
     rows: &str,
-    over: &X,
-    is_so: H,
+    holds: F,
 ) -> Result<(), Fail>
-    requires { H.IsAlwaysCallable is_so }
+    requires { F.IsAlwaysCallable holds }
 {
-    for line in rows.lines() {
-        let row = Line::of(alloc, line)?;
-        let is_so = is_so(alloc, &row, over);
-        drop(row);
-        holds(is_so?, line)?;
-    }
-    Ok(())
-}
-
-/// Returns the texts at two places. Fails for a row without them.
-pub(crate) fn texts_at(row: &Line, one: usize, other: usize) -> Result<(&str, &str), Fail> {
-    Ok((row.text(one)?, row.text(other)?))
-}
-
-/// Takes a value that was made. Returns `true` if it equals another one.
-pub(crate) fn equals<T: PartialEq + Drop>(made: T, other: &T) -> bool {
-    let equals = made == *other;
-    drop(made);
-    equals
+    rows_hold(alloc, rows, |alloc, row| match texts_at(row, 0, 1) {
+        Some((one, other)) => holds(alloc, one, other),
+        None => false,
+    })
 }

@@ -9,23 +9,20 @@ use std::test::Fail;
 const GLOBALS: &str =
     r#"{"list": [0, 1, 2, 3, 4, 5, 6, 7, 8, 9], "one": [1], "word": "part", "box": {"part": 7}}"#;
 
-/// Returns the globals of the rows.
-fn globals(alloc: Global) -> Result<Object, Fail> {
-    let json = Json::from_str(alloc, GLOBALS)?;
-    let globals = to_object(alloc, &json);
-    drop(json);
-    Ok(globals?)
+/// Returns the globals of the rows, or `None` if memory runs out.
+fn globals(alloc: Global) -> Option<Object> {
+    match Json::from_str(alloc, GLOBALS) {
+        Ok(json) => to_object(alloc, &json).ok(),
+        Err(_) => None,
+    }
 }
 
-/// Returns a runtime with the globals, with lenient names or not.
-fn runtime(alloc: Global, lenient: bool) -> Result<BuiltRuntime<(), ()>, Fail> {
-    let globals = globals(alloc)?;
-    Ok(
-        RuntimeBuilder::new(alloc)
-            .set_globals(globals)
-            .set_lenient(lenient)
-            .build(),
-    )
+/// Returns a runtime with these globals, with lenient names or not.
+fn runtime(alloc: Global, globals: Object, is_lenient: bool) -> BuiltRuntime<(), ()> {
+    RuntimeBuilder::new(alloc)
+        .set_globals(globals)
+        .set_lenient(is_lenient)
+        .build()
 }
 
 /// What a test checks over any runtime.
@@ -35,11 +32,11 @@ pub(crate) trait Check {
 
 /// Checks a runtime with the globals, with lenient names or not. No other function here names its type in a call that is
 /// generic in the runtime: each that does is checked against all that a runtime promises.
-pub(crate) fn check_over<C: Check>(alloc: Global, lenient: bool, check: &C) -> Result<(), Fail> {
-    let runtime = runtime(alloc, lenient)?;
-    let checked = check.check(alloc, &runtime);
-    drop(runtime);
-    checked
+pub(crate) fn check_over<C: Check>(alloc: Global, is_lenient: bool, check: &C) -> Result<(), Fail> {
+    match globals(alloc) {
+        Some(globals) => check.check(alloc, &runtime(alloc, globals, is_lenient)),
+        None => Err(Fail::from("the globals are not made")),
+    }
 }
 
 /// Checks a runtime with the globals and strict names, and one with lenient names.

@@ -1,31 +1,17 @@
 //! The next token of a tag, as what a plug-in expects, and what is left after it.
 use crate::languages::{Check, check_language};
-use crate::rows::{rows_hold_over, texts_at};
+use crate::rows::texts_at;
 use crate::tokens::{joined, tokens_of};
-use crate::told::{is_answer, is_name, tells};
+use crate::told::{is_answer, is_done, is_name};
 use liquid_core::parser::{
     Language, ParseBlock, ParseFilter, ParseTag, PluginRegistry, TagTokenIter,
 };
 use liquid_core::runtime::Renderable;
 use std::alloc::Global;
 use std::test::Fail;
-use tests_lines::Line;
+use tests_lines::{Line, is_text, rows_hold};
 
 const MISSING: &str = "Token expected";
-
-/// Takes a token that is expected as a text. Returns `true` if the text is the answer, or the first line of the error
-/// is.
-fn next_str_is(
-    alloc: Global,
-    expected: &str,
-    answer: &str,
-    tokens: &mut TagTokenIter<'_>,
-) -> Result<bool, Fail> {
-    match tokens.next_str(alloc, MISSING, expected) {
-        Ok(()) => Ok(expected == answer),
-        Err(error) => tells(alloc, error, answer),
-    }
-}
 
 /// Takes the next token as what a row expects. Returns `true` if its text, or the first line of the error, is the
 /// answer.
@@ -35,7 +21,7 @@ fn next_is<F: ParseFilter + Drop>(
     answer: &str,
     tokens: &mut TagTokenIter<'_>,
     filters: &PluginRegistry<F>,
-) -> Result<bool, Fail> {
+) -> bool {
     match expected {
         "identifier" => is_name(alloc, tokens.next_identifier(alloc, MISSING), answer),
         "value" => is_answer(alloc, tokens.next_value(alloc, MISSING), answer),
@@ -44,30 +30,36 @@ fn next_is<F: ParseFilter + Drop>(
             tokens.next_filter_chain(alloc, MISSING, filters),
             answer,
         ),
-        _ => next_str_is(alloc, expected, answer, tokens),
+        _ => {
+            let taken = tokens.next_str(alloc, MISSING, expected);
+            is_done(alloc, taken, expected, answer)
+        }
     }
 }
 
-/// Returns `true` if the tokens that are left of a tag have these texts.
-fn are_left(alloc: Global, tokens: TagTokenIter<'_>, tag: &str, left: &str) -> Result<bool, Fail> {
-    Ok(joined(alloc, tokens, tag.len())?.as_str() == left)
+/// Returns `true` if the next token of a tag is the answer, or has it as the first line of its error, and these tokens
+/// are left.
+fn next_and_rest_are<F: ParseFilter + Drop>(
+    alloc: Global,
+    (expected, tag): (&str, &str),
+    (answer, left): (&str, &str),
+    filters: &PluginRegistry<F>,
+) -> bool {
+    match tokens_of(alloc, tag) {
+        Ok(mut tokens) => {
+            next_is(alloc, expected, answer, &mut tokens, filters)
+                && is_text(joined(alloc, tokens, tag.len()), left)
+        }
+        Err(_) => false,
+    }
 }
 
 /// Returns `true` if the next token of a row's tag is what the row says, or has the row's error, and the same tokens
 /// are left.
-fn is_taken<F: ParseFilter + Drop>(
-    alloc: Global,
-    row: &Line,
-    filters: &PluginRegistry<F>,
-) -> Result<bool, Fail> {
-    let (expected, tag) = texts_at(row, 0, 1)?;
-    let (answer, left) = texts_at(row, 2, 3)?;
-    let mut tokens = tokens_of(alloc, tag)?;
-    let is_next = next_is(alloc, expected, answer, &mut tokens, filters)?;
-    if is_next {
-        are_left(alloc, tokens, tag, left)
-    } else {
-        Ok(false)
+fn is_taken<F: ParseFilter + Drop>(alloc: Global, row: &Line, filters: &PluginRegistry<F>) -> bool {
+    match (texts_at(row, 0, 1), texts_at(row, 2, 3)) {
+        (Some(given), Some(wanted)) => next_and_rest_are(alloc, given, wanted, filters),
+        _ => false,
     }
 }
 
@@ -105,7 +97,11 @@ impl Check for TakenTokens {
         T::Node: Renderable<()>,
         B::Node: Renderable<()>,
     {
-        rows_hold_over(alloc, ROWS, &language.filters, is_taken)
+        rows_hold(
+            alloc,
+            ROWS,
+            |alloc, row| is_taken(alloc, row, &language.filters),
+        )
     }
 }
 

@@ -1,17 +1,17 @@
 //! Tags alone and their tokens.
-use crate::rows::texts_at;
+use crate::rows::pairs_hold;
 use crate::told::{tells, told};
 use liquid_core::Error;
 use liquid_core::parser::{Tag, TagToken, TagTokenIter, TryMatchToken};
 use std::alloc::{AllocError, Global};
 use std::test::Fail;
-use tests_lines::{Line, rows_hold};
+use tests_lines::is_text;
 
 /// Returns the texts of the tokens of a tag, joined by ` / `, or the error of the tag.
 fn texts(alloc: Global, text: &str) -> Result<String, AllocError> {
     match Tag::new(alloc, text) {
         Ok(tag) => joined(alloc, tag.into_tokens(), text.len()),
-        Err(error) => told(alloc, error),
+        Err(error) => told(alloc, &error),
     }
 }
 
@@ -53,10 +53,9 @@ fn kinds(alloc: Global, token: TagToken<'_>) -> Result<String, AllocError> {
     format!(in alloc; "{identifier}{variable}{literal}{value}{range}{equality}")
 }
 
-/// Returns `true` if a row has the tokens of its tag, or its error.
-fn has_tokens(alloc: Global, row: &Line) -> Result<bool, Fail> {
-    let (tag, answer) = texts_at(row, 0, 1)?;
-    Ok(texts(alloc, tag)?.as_str() == answer)
+/// Returns `true` if these are the tokens of a tag, or its error.
+fn has_tokens(alloc: Global, tag: &str, answer: &str) -> bool {
+    is_text(texts(alloc, tag), answer)
 }
 
 /// A tag, and its tokens, or its error.
@@ -72,7 +71,7 @@ const TOKENS: &str = r#"["{% t (1..3) a | append: 1 == b %}", "(1..3) / a | appe
 
 #[test]
 fn tags_have_tokens(rt: HostRuntime) -> Result<(), Fail> {
-    rows_hold(rt.alloc(), TOKENS, has_tokens)
+    pairs_hold(rt.alloc(), TOKENS, has_tokens)
 }
 
 /// Returns the tokens of a tag.
@@ -86,46 +85,39 @@ pub(crate) fn first_token(alloc: Global, text: &str) -> Result<TagToken<'_>, Err
 }
 
 /// Returns `true` if a token has the kinds of some letters, and is raised as an error.
-fn is_kind(alloc: Global, token: TagToken<'_>, letters: &str) -> Result<bool, Fail> {
+fn is_kind(alloc: Global, token: TagToken<'_>, letters: &str) -> bool {
     let refusal = "liquid: Unexpected token (line 1, column 6)";
-    let has_kinds = kinds(alloc, token)?.as_str() == letters;
-    Ok(tells(alloc, token.raise_error(alloc), refusal)? & has_kinds)
+    is_text(kinds(alloc, token), letters) && tells(alloc, &token.raise_error(alloc), refusal)
 }
 
-/// Takes an error. Returns `true` if it is that of a token that is missing at a column.
-fn is_missing(alloc: Global, error: Error, column: usize) -> Result<bool, Fail> {
+/// Returns `true` if an error is that of a token that is missing at a column.
+fn is_missing(alloc: Global, error: &Error, column: usize) -> bool {
     match format!(in alloc; "liquid: Token expected (line 1, column {column})") {
         Ok(refusal) => tells(alloc, error, refusal.as_str()),
-        Err(failed) => {
-            drop(error);
-            Err(Fail::from(failed))
-        }
+        Err(_) => false,
     }
 }
 
 /// Returns `true` if no token is left, and the error for that is at a column.
-fn are_no_more(alloc: Global, mut tokens: TagTokenIter<'_>, column: usize) -> Result<bool, Fail> {
+fn are_no_more(alloc: Global, tokens: &mut TagTokenIter<'_>, column: usize) -> bool {
     match tokens.expect_next(alloc, "Token expected") {
-        Ok(_) => Ok(false),
-        Err(error) => is_missing(alloc, error, column),
+        Ok(_) => false,
+        Err(error) => is_missing(alloc, &error, column),
     }
 }
 
-/// Returns `true` if a tag has no second token, and the error for that is at the tag's end.
-fn has_one_token(alloc: Global, text: &str) -> Result<bool, Fail> {
-    let mut tokens = tokens_of(alloc, text)?;
-    tokens.expect_next(alloc, "Token expected")?;
-    are_no_more(alloc, tokens, text.len().saturating_sub(2))
-}
-
-/// Returns `true` if a row has the kinds of the only token of its tag, which can be raised as an error.
-fn is_of_kinds(alloc: Global, row: &Line) -> Result<bool, Fail> {
-    let (tag, letters) = texts_at(row, 0, 1)?;
-    let token = first_token(alloc, tag)?;
-    if is_kind(alloc, token, letters)? {
-        has_one_token(alloc, tag)
-    } else {
-        Ok(false)
+/// Returns `true` if a tag has one token of the kinds of some letters, and the error for a second one is at the tag's
+/// end.
+fn has_one_token(alloc: Global, tag: &str, letters: &str) -> bool {
+    match tokens_of(alloc, tag) {
+        Ok(mut tokens) => match tokens.expect_next(alloc, "Token expected") {
+            Ok(token) => {
+                is_kind(alloc, token, letters)
+                    && are_no_more(alloc, &mut tokens, tag.len().saturating_sub(2))
+            }
+            Err(_) => false,
+        },
+        Err(_) => false,
     }
 }
 
@@ -140,5 +132,5 @@ const KINDS: &str = r#"["{% t a %}", "ive"]
 
 #[test]
 fn tokens_are_what_they_look_like(rt: HostRuntime) -> Result<(), Fail> {
-    rows_hold(rt.alloc(), KINDS, is_of_kinds)
+    pairs_hold(rt.alloc(), KINDS, has_one_token)
 }

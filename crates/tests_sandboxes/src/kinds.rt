@@ -7,7 +7,6 @@ use liquid_core::partials::{
 use serde_json::Value as Json;
 use std::alloc::{AllocError, Global};
 use std::rc::Rc;
-use std::test::Fail;
 use tests_lines::Row;
 
 /// A kind of store.
@@ -62,34 +61,45 @@ where
     }
 }
 
-fn add_partial(alloc: Global, source: &mut InMemorySource, partial: &Json) -> Result<(), Fail> {
-    match (
-        partial.get(0).and_then(Json::as_str),
-        partial.get(1).and_then(Json::as_str),
-    ) {
-        (Some(name), Some(text)) => {
-            source.add(
-                String::from_str(alloc, name)?,
-                String::from_str(alloc, text)?,
-            )?;
-            Ok(())
+/// Adds a partial, and returns whether another one had its name.
+fn add(
+    alloc: Global,
+    source: &mut InMemorySource,
+    name: &str,
+    text: &str,
+) -> Result<bool, AllocError> {
+    let name = String::from_str(alloc, name)?;
+    source.add(name, String::from_str(alloc, text)?)
+}
+
+/// Adds a partial of a row. Returns `false` if it is no name and a text, or if memory runs out.
+fn add_partial(alloc: Global, source: &mut InMemorySource, partial: &Json) -> bool {
+    match (partial.get(0), partial.get(1)) {
+        (Some(Json::String(name)), Some(Json::String(text))) => {
+            add(alloc, source, name.as_str(), text.as_str()).is_ok()
         }
-        _ => Err(Fail::from("a partial is not a name and a text")),
+        _ => false,
     }
 }
 
-fn add_partials(alloc: Global, source: &mut InMemorySource, row: &Row) -> Result<(), Fail> {
+/// Adds the partials of a row. Returns `false` if one of them could not be added.
+fn add_partials(alloc: Global, source: &mut InMemorySource, row: &Row) -> bool {
     if let Some(Json::Array(partials)) = row.member("partials") {
         for partial in partials {
-            add_partial(alloc, source, partial)?;
+            if !add_partial(alloc, source, partial) {
+                return false;
+            }
         }
     }
-    Ok(())
+    true
 }
 
-/// Returns the partials of a row.
-pub(crate) fn source(alloc: Global, row: &Row) -> Result<InMemorySource, Fail> {
+/// Returns the partials of a row, or `None` if one of them could not be added.
+pub(crate) fn source(alloc: Global, row: &Row) -> Option<InMemorySource> {
     let mut source = InMemorySource::new(alloc);
-    add_partials(alloc, &mut source, row)?;
-    Ok(source)
+    if add_partials(alloc, &mut source, row) {
+        Some(source)
+    } else {
+        None
+    }
 }

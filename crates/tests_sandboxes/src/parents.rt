@@ -3,8 +3,7 @@ use liquid_core::Error;
 use liquid_core::model::{Object, Value, ValueSource, to_object};
 use liquid_core::runtime::{BuiltRuntime, Fresh, Interrupt, Runtime, RuntimeBuilder};
 use std::alloc::{AllocError, Global};
-use std::test::Fail;
-use tests_lines::{Line, Row};
+use tests_lines::{Line, Row, is_text};
 
 /// A register of the host's own.
 #[derive(Drop)]
@@ -48,9 +47,20 @@ fn set_index<R: Runtime>(alloc: Global, runtime: &mut R, name: &str) -> Result<(
     Ok(())
 }
 
-/// Returns the object at a place of a parent's row.
-fn names(alloc: Global, parent: &Line, place: usize) -> Result<Object, Fail> {
-    Ok(to_object(alloc, parent.member(place)?)?)
+/// Returns the object at a place of a parent's row, or `None` if there is no object.
+fn names(alloc: Global, parent: &Line, place: usize) -> Option<Object> {
+    match parent.member(place) {
+        Some(names) => to_object(alloc, names).ok(),
+        None => None,
+    }
+}
+
+/// Returns what the register of a parent counts, or `None` if the row doesn't say it.
+fn count(parent: &Line) -> Option<u8> {
+    match parent.number(2) {
+        Some(count) => u8::try_from(count).ok(),
+        None => None,
+    }
 }
 
 /// Returns a runtime of these globals over a store.
@@ -83,45 +93,59 @@ where
     }
 }
 
-/// Assigns and sets in a runtime what a parent's row says.
-fn fill<R>(alloc: Global, parent: &Line, runtime: &mut R) -> Result<(), Fail>
+/// Assigns names and an index variable in a runtime. Returns `false` if one of them could not be assigned.
+fn set_names<R: Runtime>(
+    alloc: Global,
+    names: Option<Object>,
+    index: Option<&str>,
+    runtime: &mut R,
+) -> bool {
+    match (names, index) {
+        (Some(names), Some(index)) => {
+            assign(names, runtime).is_ok() && set_index(alloc, runtime, index).is_ok()
+        }
+        _ => false,
+    }
+}
+
+/// Assigns and sets in a runtime what a parent's row says. Returns `false` if that is not possible.
+fn fill<R>(alloc: Global, parent: &Line, runtime: &mut R) -> bool
 where
     R: Runtime<Register = Visits>,
 {
-    assign(names(alloc, parent, 1)?, runtime)?;
-    set_index(alloc, runtime, parent.text(4)?)?;
-    let (count, interrupt) = (u8::try_from(parent.number(2)?)?, parent.text(3)?);
-    set_registers(runtime, count, interrupt);
-    Ok(())
+    match (count(parent), parent.text(3)) {
+        (Some(count), Some(interrupt)) => {
+            set_registers(runtime, count, interrupt);
+            set_names(alloc, names(alloc, parent, 1), parent.text(4), runtime)
+        }
+        _ => false,
+    }
 }
 
-/// Returns a parent over a store, lenient if the row says so.
-pub(crate) fn over<P: Drop>(
-    alloc: Global,
-    parent: &Line,
-    row: &Row,
-    store: P,
-) -> Result<Over<P>, Fail> {
+/// Returns a parent over a store, lenient if the row says so, or `None` if it could not be made.
+pub(crate) fn over<P: Drop>(alloc: Global, parent: &Line, row: &Row, store: P) -> Option<Over<P>> {
     let globals = names(alloc, parent, 0)?;
     let mut runtime = built(alloc, globals, store, row.is_lenient());
-    fill(alloc, parent, &mut runtime)?;
-    Ok(runtime)
+    if fill(alloc, parent, &mut runtime) {
+        Some(runtime)
+    } else {
+        None
+    }
 }
 
 /// Returns `true` if the register and the interrupt of a runtime are the parent's, and whether it is as lenient as the
 /// row.
-fn has_registers<R: Runtime<Register = Visits>>(
-    parent: &Line,
-    row: &Row,
-    runtime: &R,
-) -> Result<bool, Fail> {
+fn has_registers<R: Runtime<Register = Visits>>(parent: &Line, row: &Row, runtime: &R) -> bool {
     let registers = runtime.registers();
-    Ok(
-        i64::from(registers.value.count) == parent.number(2)?
-            && registers.interrupt.interrupted() != parent.text(3)?.is_empty()
-            && runtime.is_lenient() == row.is_lenient()
-            && runtime.name().is_none(),
-    )
+    match (count(parent), parent.text(3)) {
+        (Some(count), Some(interrupt)) => {
+            registers.value.count == count
+                && registers.interrupt.interrupted() != interrupt.is_empty()
+                && runtime.is_lenient() == row.is_lenient()
+                && runtime.name().is_none()
+        }
+        _ => false,
+    }
 }
 
 /// The names that the rows and the parents use.
@@ -138,39 +162,40 @@ fn shown(alloc: Global, value: Option<&Value>) -> Result<String, AllocError> {
     }
 }
 
+/// Returns `true` if a value is left as it was.
+fn is_unchanged(alloc: Global, before: Option<&Value>, after: Option<&Value>) -> bool {
+    match shown(alloc, before) {
+        Ok(before) => is_text(shown(alloc, after), before.as_str()),
+        Err(_) => false,
+    }
+}
+
 /// Returns `true` if a value is left as a row says, or as it was if the row says nothing.
 fn is_told(
     alloc: Global,
     told: Option<&str>,
     before: Option<&Value>,
     after: Option<&Value>,
-) -> Result<bool, AllocError> {
-    let left = shown(alloc, after)?;
-    let is_told = match told {
-        Some(told) => left.as_str() == told,
-        None => left.as_str() == shown(alloc, before)?.as_str(),
-    };
-    Ok(is_told)
+) -> bool {
+    match told {
+        Some(told) => is_text(shown(alloc, after), told),
+        None => is_unchanged(alloc, before, after),
+    }
 }
 
 /// Returns `true` if the names are what a row leaves. A name that is counted is seen if it has no other value.
-fn are_names_left<R: Runtime, Q: Runtime>(
-    alloc: Global,
-    row: &Row,
-    before: &R,
-    after: &Q,
-) -> Result<bool, AllocError> {
+fn are_names_left<R: Runtime, Q: Runtime>(alloc: Global, row: &Row, before: &R, after: &Q) -> bool {
     for name in NAMES {
         let was = before.try_get_name(name);
         let told = match row.text_within("assigned", name) {
             None if was.is_none() => row.text_within("counted", name),
             told => told,
         };
-        if !is_told(alloc, told, was, after.try_get_name(name))? {
-            return Ok(false);
+        if !is_told(alloc, told, was, after.try_get_name(name)) {
+            return false;
         }
     }
-    Ok(true)
+    true
 }
 
 /// Returns `true` if the index variables are what a row leaves.
@@ -179,14 +204,14 @@ fn are_indexes_left<R: Runtime, Q: Runtime>(
     row: &Row,
     before: &R,
     after: &Q,
-) -> Result<bool, AllocError> {
+) -> bool {
     for name in ["c", "d", "n", "spare"] {
         let (told, was) = (row.text_within("counted", name), before.get_index(name));
-        if !is_told(alloc, told, was, after.get_index(name))? {
-            return Ok(false);
+        if !is_told(alloc, told, was, after.get_index(name)) {
+            return false;
         }
     }
-    Ok(true)
+    true
 }
 
 /// Returns `true` if a runtime is what a row leaves of the parent, which was `before`: the names and index variables
@@ -197,9 +222,8 @@ pub(crate) fn is_left<R: Runtime<Register = Visits>>(
     row: &Row,
     before: &Over<()>,
     after: &R,
-) -> Result<bool, Fail> {
-    let has_registers = has_registers(parent, row, after)?;
-    let are_names_left = are_names_left(alloc, row, before, after)?;
-    let are_indexes_left = are_indexes_left(alloc, row, before, after)?;
-    Ok(has_registers && are_names_left && are_indexes_left)
+) -> bool {
+    has_registers(parent, row, after)
+        && are_names_left(alloc, row, before, after)
+        && are_indexes_left(alloc, row, before, after)
 }

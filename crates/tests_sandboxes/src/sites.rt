@@ -9,8 +9,7 @@ use liquid_core::runtime::{ChainedScopes, FlatScopes, Frame, Runtime, Scopes, Te
 use liquid_core::{Discreet, Error, Filter, PartialStore, TextSink};
 use std::alloc::{AllocError, Global};
 use std::rc::Rc;
-use std::test::Fail;
-use tests_lines::{Line, Row};
+use tests_lines::{Line, Row, is_text};
 
 /// A row, one of its parents, and what that parent is before the row is rendered.
 #[derive(Clone, Copy)]
@@ -43,10 +42,10 @@ fn outer(alloc: Global) -> Result<Object, AllocError> {
 }
 
 /// Returns `true` if a call has the error of a row, or none if the row has none.
-fn has_error(alloc: Global, row: &Row, answer: &Result<(), Error>) -> Result<bool, AllocError> {
+fn has_error(alloc: Global, row: &Row, answer: &Result<(), Error>) -> bool {
     match answer {
-        Ok(()) => Ok(row.error().is_empty()),
-        Err(error) => Ok(error.to_string(alloc)?.as_str() == row.error()),
+        Ok(()) => row.error().is_empty(),
+        Err(error) => is_text(error.to_string(alloc), row.error()),
     }
 }
 
@@ -57,10 +56,10 @@ fn is_as_told<R: Runtime<Register = Visits>>(
     written: &[u8],
     answer: &Result<(), Error>,
     after: &R,
-) -> Result<bool, Fail> {
-    let has_error = has_error(alloc, place.row, answer)?;
-    let is_left = is_left(alloc, place.parent, place.row, place.before, after)?;
-    Ok(written == place.row.written().as_bytes() && has_error && is_left)
+) -> bool {
+    written == place.row.written().as_bytes()
+        && has_error(alloc, place.row, answer)
+        && is_left(alloc, place.parent, place.row, place.before, after)
 }
 
 /// Renders a row in a sandbox or in isolation over its parent.
@@ -91,18 +90,18 @@ fn holds_at_once<X, T, B, R>(
     alloc: Global,
     place: Place<'_>,
     page: &Template<X, T, B>,
-    mut parent: R,
-) -> Result<bool, Fail>
+    parent: &mut R,
+) -> bool
 where
     X: Filter,
     T: Discreet<Visits>,
     B: Discreet<Visits>,
-    R: Runtime<Register = Visits> + Drop,
+    R: Runtime<Register = Visits>,
     R::Store: PartialStore<X, T, B>,
 {
     let mut sink = TextSink::new(alloc);
-    let answer = render(alloc, place.row, page, &mut sink, &mut parent);
-    is_as_told(alloc, place, sink.as_bytes(), &answer, &parent)
+    let answer = render(alloc, place.row, page, &mut sink, parent);
+    is_as_told(alloc, place, sink.as_bytes(), &answer, &*parent)
 }
 
 /// Renders a row in a sandbox or in isolation over open scopes.
@@ -178,7 +177,7 @@ fn holds_in<S, X, T, B>(
     place: Place<'_>,
     page: &Template<X, T, B>,
     base: S::Base,
-) -> Result<bool, Fail>
+) -> bool
 where
     S: Scopes<Register = Visits>,
     S::Base: Drop,
@@ -194,20 +193,63 @@ where
     is_as_told(alloc, place, sink.as_bytes(), &answer, &after)
 }
 
-/// Returns a place's parent over a store of its own.
+/// Returns a place's parent over a store of its own, or `None` if it could not be made.
 fn parent_over<F, T, B, K>(
     alloc: Global,
     place: Place<'_>,
     language: &Rc<Language<F, T, B>>,
-) -> Result<Over<K::Store>, Fail>
+) -> Option<Over<K::Store>>
 where
     F: ParseFilter + Drop,
     T: ParseTag<F> + Drop,
     B: ParseBlock<F> + Drop,
     K: Kind<F, T, B>,
 {
-    let store = K::store(alloc, source(alloc, place.row)?, language)?;
+    let store = K::store(alloc, source(alloc, place.row)?, language).ok()?;
     over(alloc, place.parent, place.row, store)
+}
+
+/// Returns `true` if a row passes with the calls over a parent.
+fn holds_over_parent<F, T, B, K>(
+    alloc: Global,
+    place: Place<'_>,
+    language: &Rc<Language<F, T, B>>,
+    page: &Template<F::Filter, T::Node, B::Node>,
+) -> bool
+where
+    F: ParseFilter + Drop,
+    T: ParseTag<F> + Drop,
+    B: ParseBlock<F> + Drop,
+    T::Node: Discreet<Visits>,
+    B::Node: Discreet<Visits>,
+    K: Kind<F, T, B>,
+{
+    match parent_over::<F, T, B, K>(alloc, place, language) {
+        Some(mut parent) => holds_at_once(alloc, place, page, &mut parent),
+        None => false,
+    }
+}
+
+/// Returns `true` if a row passes with the calls over scopes of one form, whose base is a parent.
+fn holds_over_scopes<S, F, T, B, K>(
+    alloc: Global,
+    place: Place<'_>,
+    language: &Rc<Language<F, T, B>>,
+    page: &Template<F::Filter, T::Node, B::Node>,
+) -> bool
+where
+    S: Scopes<Register = Visits, Base = Over<K::Store>, Store = K::Store>,
+    F: ParseFilter + Drop,
+    T: ParseTag<F> + Drop,
+    B: ParseBlock<F> + Drop,
+    T::Node: Discreet<Visits>,
+    B::Node: Discreet<Visits>,
+    K: Kind<F, T, B>,
+{
+    match parent_over::<F, T, B, K>(alloc, place, language) {
+        Some(parent) => holds_in::<S, _, _, _>(alloc, place, page, parent),
+        None => false,
+    }
 }
 
 /// Returns `true` if a row passes with both calls and both forms of scopes over a parent.
@@ -216,7 +258,7 @@ fn holds_over<F, T, B, K>(
     place: Place<'_>,
     language: &Rc<Language<F, T, B>>,
     page: &Template<F::Filter, T::Node, B::Node>,
-) -> Result<bool, Fail>
+) -> bool
 where
     F: ParseFilter + Drop,
     T: ParseTag<F> + Drop,
@@ -225,23 +267,21 @@ where
     B::Node: Discreet<Visits>,
     K: Kind<F, T, B>,
 {
-    let parent = parent_over::<F, T, B, K>(alloc, place, language)?;
-    let at_once = holds_at_once(alloc, place, page, parent)?;
-    let parent = parent_over::<F, T, B, K>(alloc, place, language)?;
-    let chained = holds_in::<ChainedScopes<Over<K::Store>>, _, _, _>(alloc, place, page, parent)?;
-    let parent = parent_over::<F, T, B, K>(alloc, place, language)?;
-    let flat = holds_in::<FlatScopes<Over<K::Store>>, _, _, _>(alloc, place, page, parent)?;
-    Ok(at_once && chained && flat)
+    holds_over_parent::<F, T, B, K>(alloc, place, language, page)
+        && holds_over_scopes::<ChainedScopes<Over<K::Store>>, F, T, B, K>(
+            alloc, place, language, page,
+        )
+        && holds_over_scopes::<FlatScopes<Over<K::Store>>, F, T, B, K>(alloc, place, language, page)
 }
 
-/// Returns `true` if a parsed row passes over a parent.
+/// Returns `true` if a parsed row passes over the parent of a line.
 fn holds_within<F, T, B, K>(
     alloc: Global,
     row: &Row,
-    parent: &Line,
+    line: &str,
     language: &Rc<Language<F, T, B>>,
     page: &Template<F::Filter, T::Node, B::Node>,
-) -> Result<bool, Fail>
+) -> bool
 where
     F: ParseFilter + Drop,
     T: ParseTag<F> + Drop,
@@ -250,22 +290,30 @@ where
     B::Node: Discreet<Visits>,
     K: Kind<F, T, B>,
 {
-    let before = over(alloc, parent, row, ())?;
-    let place = Place {
-        row,
-        parent,
-        before: &before,
+    let Some(parent) = Line::of(alloc, line) else {
+        return false;
     };
-    holds_over::<F, T, B, K>(alloc, place, language, page)
+    match over(alloc, &parent, row, ()) {
+        Some(before) => {
+            let place = Place {
+                row,
+                parent: &parent,
+                before: &before,
+            };
+            holds_over::<F, T, B, K>(alloc, place, language, page)
+        }
+        None => false,
+    }
 }
 
-/// Returns `true` if a row passes over each of these parents.
-pub(crate) fn holds<F, T, B, K>(
+/// Returns `true` if a parsed row passes over each of these parents.
+fn page_holds<F, T, B, K>(
     alloc: Global,
     row: &Row,
     parents: &str,
     language: &Rc<Language<F, T, B>>,
-) -> Result<bool, Fail>
+    page: &Template<F::Filter, T::Node, B::Node>,
+) -> bool
 where
     F: ParseFilter + Drop,
     T: ParseTag<F> + Drop,
@@ -274,12 +322,33 @@ where
     B::Node: Discreet<Visits>,
     K: Kind<F, T, B>,
 {
-    let page = Template::new(parse(alloc, row.template(), language)?);
     for parent in parents.lines() {
-        let parent = Line::of(alloc, parent)?;
-        if !holds_within::<F, T, B, K>(alloc, row, &parent, language, &page)? {
-            return Ok(false);
+        if !holds_within::<F, T, B, K>(alloc, row, parent, language, page) {
+            return false;
         }
     }
-    Ok(true)
+    true
+}
+
+/// Returns `true` if a row passes over each of these parents.
+pub(crate) fn row_holds<F, T, B, K>(
+    alloc: Global,
+    row: &Row,
+    parents: &str,
+    language: &Rc<Language<F, T, B>>,
+) -> bool
+where
+    F: ParseFilter + Drop,
+    T: ParseTag<F> + Drop,
+    B: ParseBlock<F> + Drop,
+    T::Node: Discreet<Visits>,
+    B::Node: Discreet<Visits>,
+    K: Kind<F, T, B>,
+{
+    match parse(alloc, row.template(), language) {
+        Ok(nodes) => {
+            page_holds::<F, T, B, K>(alloc, row, parents, language, &Template::new(nodes))
+        }
+        Err(_) => false,
+    }
 }

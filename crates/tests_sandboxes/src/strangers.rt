@@ -3,19 +3,20 @@ use crate::parents::{STRICT, over};
 use crate::sites::data;
 use bench::dripping::Dripping;
 use bench::languages::{language, leaky_language};
+use bench::{AnyFilter, BlockNode, TagNode};
 use liquid_core::model::{Object, Value, ValueRender};
 use liquid_core::parser::parse;
 use liquid_core::runtime::{BuiltRuntime, Fresh, Runtime, RuntimeBuilder, SandboxedStackFrame};
 use liquid_core::{Error, Sink, Template, TextSink, render_source};
 use std::alloc::{AllocError, Global};
 use std::test::Fail;
-use tests_lines::{Line, Row, rows_hold, same};
+use tests_lines::{Line, Row, holds, is_text, rows_hold};
 
 /// Returns the rendered text of a name's value, or `-` if it has none.
-fn shown<R: Runtime>(alloc: Global, runtime: &R, name: &str) -> Result<String, Fail> {
+fn shown<R: Runtime>(alloc: Global, runtime: &R, name: &str) -> Result<String, AllocError> {
     match runtime.try_get_name(name) {
-        Some(value) => Ok(ValueRender::new(value).to_string(alloc)?),
-        None => Ok(String::from_str(alloc, "-")?),
+        Some(value) => ValueRender::new(value).to_string(alloc),
+        None => String::from_str(alloc, "-"),
     }
 }
 
@@ -27,6 +28,11 @@ static ASSIGNING: &str =
 static DRIPS: &str = r#"[0, "", "1", false]
 [1, "a", "1", false]
 [2, "a2", "2", true]"#;
+
+/// Returns the page of a text of the test plug-ins.
+fn page(alloc: Global, text: &str) -> Result<Template<AnyFilter, TagNode, BlockNode>, Error> {
+    Ok(Template::new(parse(alloc, text, &language(alloc)?)?))
+}
 
 /// Renders a text of the test plug-ins in a sandbox that sees this data.
 fn render<R, K>(
@@ -40,22 +46,27 @@ where
     R: Runtime<Store = ()>,
     K: Sink,
 {
-    let page = Template::new(parse(alloc, text, &language(alloc)?)?);
-    page.render_sandboxed(alloc, sink, host, data, None)
+    page(alloc, text)?.render_sandboxed(alloc, sink, host, data, None)
 }
 
 /// Returns `true` if a row of a sink says what it took, what `g` is left as and whether the call has no error.
-fn is_told<R: Runtime>(
-    alloc: Global,
-    drip: &Line,
-    took: &[u8],
-    after: &R,
-    is_whole: bool,
-) -> Result<bool, Fail> {
-    let (wanted, left) = (drip.text(1)?, drip.text(2)?);
-    let is_as_whole = is_whole == drip.truth(3)?;
-    let is_left = shown(alloc, after, "g")?.as_str() == left;
-    Ok(took == wanted.as_bytes() && is_as_whole && is_left)
+fn is_told<R: Runtime>(alloc: Global, drip: &Line, took: &[u8], after: &R, is_whole: bool) -> bool {
+    match (drip.text(1), drip.text(2), drip.truth(3)) {
+        (Some(wanted), Some(left), Some(is_wanted_whole)) => {
+            took == wanted.as_bytes()
+                && is_whole == is_wanted_whole
+                && is_text(shown(alloc, after, "g"), left)
+        }
+        _ => false,
+    }
+}
+
+/// Returns how many puts the sink of a row takes, or `None` if the row doesn't say it.
+fn puts(drip: &Line) -> Option<u64> {
+    match drip.number(0) {
+        Some(puts) => u64::try_from(puts).ok(),
+        None => None,
+    }
 }
 
 /// Returns `true` if a row of a sink passes over a parent.
@@ -64,29 +75,44 @@ fn drips_over<R: Runtime<Store = ()>>(
     drip: &Line,
     row: &Row,
     parent: &mut R,
-) -> Result<bool, Fail> {
-    let puts = u64::try_from(drip.number(0)?)?;
-    let data = data(alloc, row)?;
-    let mut sink = Dripping::new(alloc, puts);
-    let is_whole = render(alloc, row.template(), data, parent, &mut sink).is_ok();
-    is_told(alloc, drip, sink.as_bytes(), &*parent, is_whole)
+) -> bool {
+    match (puts(drip), data(alloc, row)) {
+        (Some(puts), Ok(data)) => {
+            let mut sink = Dripping::new(alloc, puts);
+            let is_whole = render(alloc, row.template(), data, parent, &mut sink).is_ok();
+            is_told(alloc, drip, sink.as_bytes(), &*parent, is_whole)
+        }
+        _ => false,
+    }
 }
 
 /// Returns `true` if a row of a sink passes over the parent of a line.
-fn drips_within(alloc: Global, drip: &Line, row: &Row, line: &str) -> Result<bool, Fail> {
-    let parent = Line::of(alloc, line)?;
-    drips_over(alloc, drip, row, &mut over(alloc, &parent, row, ())?)
+fn drips_within(alloc: Global, drip: &Line, row: &Row, line: &str) -> bool {
+    let Some(parent) = Line::of(alloc, line) else {
+        return false;
+    };
+    match over(alloc, &parent, row, ()) {
+        Some(mut host) => drips_over(alloc, drip, row, &mut host),
+        None => false,
+    }
 }
 
 /// Returns `true` if a row of a sink passes over each parent.
-fn drips(alloc: Global, drip: &Line) -> Result<bool, Fail> {
-    let row = Row::of(alloc, ASSIGNING)?;
+fn drips_over_each(alloc: Global, drip: &Line, row: &Row) -> bool {
     for parent in STRICT.lines() {
-        if !drips_within(alloc, drip, &row, parent)? {
-            return Ok(false);
+        if !drips_within(alloc, drip, row, parent) {
+            return false;
         }
     }
-    Ok(true)
+    true
+}
+
+/// Returns `true` if a row of a sink passes with the template that assigns.
+fn drips(alloc: Global, drip: &Line) -> bool {
+    match Row::of(alloc, ASSIGNING) {
+        Some(row) => drips_over_each(alloc, drip, &row),
+        None => false,
+    }
 }
 
 #[test]
@@ -114,48 +140,53 @@ fn text(alloc: Global, text: &str) -> Result<Value, AllocError> {
 /// Writes a stranger's template, which sees the visitor's name and nothing of the host's.
 fn greeting<R: Runtime<Store = ()>>(
     alloc: Global,
-    stranger: &str,
     host: &mut R,
     sink: &mut TextSink,
 ) -> Result<(), Error> {
+    let stranger = "Hello {{ name }}!{% set visits 1 %}{{ secret }}";
     let data = named(alloc, "name", text(alloc, "World")?)?;
     render(alloc, stranger, data, host, sink)
 }
 
-/// Fails for a call without the error that `secret` has no value.
-fn names_the_secret(alloc: Global, answer: Result<(), Error>) -> Result<(), Fail> {
+/// Returns `true` if a call has the error that `secret` has no value.
+fn names_the_secret(alloc: Global, answer: Result<(), Error>) -> bool {
     match answer {
-        Ok(()) => Err(Fail::from("the stranger sees a secret")),
-        Err(error) => same(
-            error.to_string(alloc)?.as_str(),
+        Ok(()) => false,
+        Err(error) => is_text(
+            error.to_string(alloc),
             "liquid: Unknown variable\n  with:\n    requested variable=secret\n",
         ),
     }
 }
 
-/// Fails if a stranger's template shows more than the visitor's name, or another error.
-fn shows_no_secret<R: Runtime<Store = ()>>(alloc: Global, host: &mut R) -> Result<(), Fail> {
-    let mut sink = TextSink::new(alloc);
-    let stranger = "Hello {{ name }}!{% set visits 1 %}{{ secret }}";
-    let answer = greeting(alloc, stranger, host, &mut sink);
-    names_the_secret(alloc, answer)?;
-    same(sink.into_string()?.as_str(), "Hello World!")
+/// Returns `true` if a sink took this text.
+fn took(sink: TextSink, text: &str) -> bool {
+    match sink.into_string() {
+        Ok(taken) => taken.as_str() == text,
+        Err(_) => false,
+    }
 }
 
-/// Fails if a stranger's template sees a secret of a host, or changes it.
-fn keeps_its_secret<R>(alloc: Global, mut host: R) -> Result<(), Fail>
-where
-    R: Runtime<Store = ()> + Drop,
-{
-    shows_no_secret(alloc, &mut host)?;
-    same(shown(alloc, &host, "visits")?.as_str(), "1")?;
-    same(shown(alloc, &host, "secret")?.as_str(), "42")
+/// Returns `true` if a stranger's template shows the visitor's name, and has an error at the host's secret.
+fn shows_no_secret<R: Runtime<Store = ()>>(alloc: Global, host: &mut R) -> bool {
+    let mut sink = TextSink::new(alloc);
+    names_the_secret(alloc, greeting(alloc, host, &mut sink)) && took(sink, "Hello World!")
+}
+
+/// Returns `true` if a stranger's template doesn't see a secret of a host, and doesn't change it.
+fn keeps_its_secret<R: Runtime<Store = ()>>(alloc: Global, host: &mut R) -> bool {
+    shows_no_secret(alloc, host)
+        && is_text(shown(alloc, &*host, "visits"), "1")
+        && is_text(shown(alloc, &*host, "secret"), "42")
 }
 
 #[test]
 fn a_stranger_sees_the_visitor_and_no_secret(rt: HostRuntime) -> Result<(), Fail> {
     let secret = named(rt.alloc(), "secret", Value::scalar(42i64))?;
-    keeps_its_secret(rt.alloc(), host::<()>(rt.alloc(), secret))
+    holds(
+        keeps_its_secret(rt.alloc(), &mut host::<()>(rt.alloc(), secret)),
+        "the stranger sees the visitor's name, and the host keeps its secret",
+    )
 }
 
 /// Renders `leak` over a runtime.
@@ -163,41 +194,48 @@ fn leak<R>(alloc: Global, runtime: &mut R, sink: &mut TextSink) -> Result<(), Er
 where
     R: Runtime<Store = ()>,
 {
-    let language = leaky_language(alloc)?;
-    let answer = render_source(alloc, "{% leak s 1 %}", &language, runtime, sink);
-    drop(language);
-    answer
+    render_source(
+        alloc,
+        "{% leak s 1 %}",
+        &leaky_language(alloc)?,
+        runtime,
+        sink,
+    )
 }
 
-/// Returns what `leak` writes under a sandboxed frame without names over a host.
-fn leaked<R: Runtime<Store = ()> + Drop>(alloc: Global, host: R) -> Result<String, Fail> {
-    let mut sandbox = SandboxedStackFrame::new(host, Object::new(alloc));
+/// Returns `true` if `leak` writes this text over a runtime.
+fn writes<R: Runtime<Store = ()>>(alloc: Global, runtime: &mut R, text: &str) -> bool {
     let mut sink = TextSink::new(alloc);
-    let answer = leak(alloc, &mut sandbox, &mut sink);
-    drop(sandbox);
-    answer?;
-    Ok(sink.into_string()?)
+    leak(alloc, runtime, &mut sink).is_ok() && took(sink, text)
 }
 
-/// Returns what `leak` writes over a host in which `s` is assigned or is not.
-fn leaked_over<R>(alloc: Global, mut host: R, is_assigned: bool) -> Result<String, Fail>
-where
-    R: Runtime<Store = ()> + Drop,
-{
-    if is_assigned {
-        host.set_global(String::from_str(alloc, "s")?, text(alloc, "S")?)?;
-    }
-    leaked(alloc, host)
+/// Returns `true` if `leak` writes this text under a sandboxed frame without names over a host.
+fn leaks<R: Runtime<Store = ()> + Drop>(alloc: Global, host: R, wanted: &str) -> bool {
+    let mut sandbox = SandboxedStackFrame::new(host, Object::new(alloc));
+    writes(alloc, &mut sandbox, wanted)
 }
 
-/// Fails if `leak` writes another text over a host in which `s` is assigned or is not.
-fn leaks(alloc: Global, is_assigned: bool, wanted: &str) -> Result<(), Fail> {
-    let host = host::<()>(alloc, Object::new(alloc));
-    same(leaked_over(alloc, host, is_assigned)?.as_str(), wanted)
+/// Assigns the name `s` in a host.
+fn assign<R: Runtime>(alloc: Global, host: &mut R) -> Result<(), Error> {
+    host.set_global(String::from_str(alloc, "s")?, text(alloc, "S")?)?;
+    Ok(())
+}
+
+/// Returns `true` if `leak` writes `S` over a host in which `s` is assigned, and nothing over one in which it is not.
+fn leaks_what_is_assigned<R: Runtime<Store = ()> + Drop>(
+    alloc: Global,
+    mut assigned: R,
+    other: R,
+) -> bool {
+    assign(alloc, &mut assigned).is_ok() && leaks(alloc, assigned, "S") && leaks(alloc, other, "")
 }
 
 #[test]
 fn leak_writes_what_a_sandbox_hides(rt: HostRuntime) -> Result<(), Fail> {
-    leaks(rt.alloc(), true, "S")?;
-    leaks(rt.alloc(), false, "")
+    let assigned = host::<()>(rt.alloc(), Object::new(rt.alloc()));
+    let other = host::<()>(rt.alloc(), Object::new(rt.alloc()));
+    holds(
+        leaks_what_is_assigned(rt.alloc(), assigned, other),
+        "`leak` writes what is assigned around its sandbox",
+    )
 }

@@ -1,13 +1,13 @@
 //! Tables of rows, in both languages.
 use crate::kinds::{Eager, Kind, OnDemand};
 use crate::parents::Visits;
-use crate::sites::holds;
+use crate::sites::row_holds;
 use liquid_core::Discreet;
 use liquid_core::parser::{Language, ParseBlock, ParseFilter, ParseTag};
 use std::alloc::Global;
 use std::rc::Rc;
 use std::test::Fail;
-use tests_lines::Row;
+use tests_lines::{Row, holds};
 
 /// A table of rows, the parents that they are rendered over, whether their names are lenient, and the number of rows.
 #[derive(Clone, Copy)]
@@ -39,20 +39,43 @@ impl<'a> Table<'a> {
         }
     }
 
-    /// Returns a row of the table.
-    fn row(&self, alloc: Global, line: &str) -> Result<Row, Fail> {
-        let row = Row::of(alloc, line)?;
-        let row = if self.is_lenient {
-            row.leniently()
-        } else {
-            row
-        };
-        Ok(row)
+    /// Returns a row of the table, or `None` for a line that is none.
+    fn row(&self, alloc: Global, line: &str) -> Option<Row> {
+        match Row::of(alloc, line) {
+            Some(row) => Some(if self.is_lenient {
+                row.leniently()
+            } else {
+                row
+            }),
+            None => None,
+        }
     }
 }
 
-/// Fails for the first row of a table that does not pass over stores of one kind.
-fn all_hold<F, T, B, K>(
+/// Returns `true` if a line of a table is a row that passes over stores of one kind.
+fn line_holds<F, T, B, K>(
+    alloc: Global,
+    table: &Table<'_>,
+    line: &str,
+    language: &Rc<Language<F, T, B>>,
+) -> bool
+where
+    F: ParseFilter + Drop,
+    T: ParseTag<F> + Drop,
+    B: ParseBlock<F> + Drop,
+    T::Node: Discreet<Visits>,
+    B::Node: Discreet<Visits>,
+    K: Kind<F, T, B>,
+{
+    match table.row(alloc, line) {
+        Some(row) => row_holds::<F, T, B, K>(alloc, &row, table.parents, language),
+        None => false,
+    }
+}
+
+/// Fails for the first row of a table that does not pass over stores of one kind, and for a table with another number of
+/// rows.
+fn table_holds<F, T, B, K>(
     alloc: Global,
     table: &Table<'_>,
     language: &Rc<Language<F, T, B>>,
@@ -66,16 +89,17 @@ where
     K: Kind<F, T, B>,
 {
     for line in table.rows.lines() {
-        let row = table.row(alloc, line)?;
-        if !holds::<F, T, B, K>(alloc, &row, table.parents, language)? {
+        if !line_holds::<F, T, B, K>(alloc, table, line, language) {
             return Err(Fail::new(format_args!("this row doesn't hold: {line}")));
         }
     }
-    Ok(())
+    holds(
+        table.rows.lines().count() == table.count,
+        "a table has all its rows",
+    )
 }
 
-/// Fails for the first row of the tables that does not pass in a language over stores of one kind, and for a table with
-/// another number of rows.
+/// Fails for the first table that does not pass in a language over stores of one kind.
 fn tables_hold<F, T, B, K>(
     alloc: Global,
     tables: &[Table<'_>],
@@ -91,9 +115,7 @@ where
 {
     let language = Rc::new(alloc, language)?;
     for table in tables {
-        all_hold::<F, T, B, K>(alloc, table, &language)?;
-        let count = table.rows.lines().count();
-        tests_lines::holds(count == table.count, "a table has all its rows")?;
+        table_holds::<F, T, B, K>(alloc, table, &language)?;
     }
     Ok(())
 }

@@ -194,12 +194,12 @@ where
     T::Node: Discreet<()>,
     B::Node: Discreet<()>,
 {
+    if !is_shown_at_once(alloc, language, row, partials) {
+        return false;
+    }
     let (text, _, _, _, _, _, _) = *row;
-    let at_once = is_shown_at_once(alloc, language, row, partials);
     let mut page = prepare_page(alloc, language, text, partials);
-    let first = is_shown_next(alloc, &mut page, row);
-    let second = is_shown_next(alloc, &mut page, row);
-    at_once & first & second
+    is_shown_next(alloc, &mut page, row) && is_shown_next(alloc, &mut page, row)
 }
 
 /// Fails for the first row whose page does not end as the row says.

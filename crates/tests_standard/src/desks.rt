@@ -2,6 +2,7 @@
 ghost use Rattle.std.specs.Prelude.{refl};
 ghost use Rattle.std_marks.specs.meaning.Marks.{marks_of, no_marks};
 
+use crate::sources::is_whole;
 use liquid_core::parser::{Language, ParseBlock, ParseFilter, ParseTag, PluginRegistry};
 use liquid_core::partials::InMemorySource;
 use liquid_core::runtime::Renderable;
@@ -14,7 +15,7 @@ use std::alloc::{AllocError, Global};
 use std::test::Fail;
 use std_marks::marks::MarksShape;
 use std_marks::{HoldsMarks, Marks};
-use tests_lines::{holds, same};
+use tests_lines::holds;
 
 /// Marks, and the number of visits.
 #[derive(Drop)]
@@ -106,32 +107,23 @@ where
     render_twice(alloc, text, &plain_language(alloc)?, runtime, sink)
 }
 
-/// Fails if two pages over one desk do not share its marks.
-fn keeps_marks<R>(alloc: Global, runtime: &mut R) -> Result<(), Fail>
+/// Returns `true` if two pages over one desk share its marks, and are two visits.
+fn keeps_marks_and_visits<R>(alloc: Global, runtime: &mut R) -> bool
 where
     R: Runtime<Register = Desk, Store = ()>,
 {
     let mut sink = TextSink::new(alloc);
-    render_marks(alloc, runtime, &mut sink)?;
-    same(sink.into_string()?.as_str(), "1a2")
-}
-
-/// Fails if two pages over one desk do not share its marks, or are not two visits.
-fn keeps_marks_and_visits<R>(alloc: Global, mut runtime: R) -> Result<(), Fail>
-where
-    R: Runtime<Register = Desk, Store = ()> + Drop,
-{
-    keeps_marks(alloc, &mut runtime)?;
-    holds(
-        runtime.registers().value.visits == 2,
-        "a desk keeps its visits",
-    )
+    let answer = render_marks(alloc, runtime, &mut sink);
+    is_whole(alloc, sink, answer, "1a2") && runtime.registers().value.visits == 2
 }
 
 #[test]
 fn a_desk_keeps_marks_and_visits(rt: HostRuntime) -> Result<(), Fail> {
-    let runtime: BuiltRuntime<Desk, ()> = RuntimeBuilder::new(rt.alloc()).build();
-    keeps_marks_and_visits(rt.alloc(), runtime)
+    let mut runtime: BuiltRuntime<Desk, ()> = RuntimeBuilder::new(rt.alloc()).build();
+    holds(
+        keeps_marks_and_visits(rt.alloc(), &mut runtime),
+        "a desk keeps its marks and its visits",
+    )
 }
 
 /// Renders a page with marks over a desk of its own.
@@ -149,6 +141,9 @@ fn render_fresh(alloc: Global, sink: &mut TextSink) -> Result<(), Error> {
 #[test]
 fn a_page_has_a_fresh_desk(rt: HostRuntime) -> Result<(), Fail> {
     let mut sink = TextSink::new(rt.alloc());
-    render_fresh(rt.alloc(), &mut sink)?;
-    same(sink.into_string()?.as_str(), "12a")
+    let answer = render_fresh(rt.alloc(), &mut sink);
+    holds(
+        is_whole(rt.alloc(), sink, answer, "12a"),
+        "a page has marks of its own",
+    )
 }

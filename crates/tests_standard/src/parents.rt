@@ -3,7 +3,6 @@ use liquid_core::Error;
 use liquid_core::model::{Object, Value, to_object};
 use liquid_core::runtime::{BuiltRuntime, Interrupt, Runtime, RuntimeBuilder};
 use std::alloc::Global;
-use std::test::Fail;
 use std_marks::Marks;
 use tests_lines::{Line, Row};
 
@@ -41,9 +40,12 @@ const NAMES: [&str; 22] = [
     "z",
 ];
 
-/// Returns the globals of a parent.
-fn globals_of(alloc: Global, parent: &Line) -> Result<Object, Fail> {
-    Ok(to_object(alloc, parent.member(0)?)?)
+/// Returns the globals of a parent, or `None` if its row has none.
+fn globals_of(alloc: Global, parent: &Line) -> Option<Object> {
+    match parent.member(0) {
+        Some(globals) => to_object(alloc, globals).ok(),
+        None => None,
+    }
 }
 
 /// Returns a runtime of these globals over a store.
@@ -66,26 +68,27 @@ fn set_spare<R: Runtime>(alloc: Global, runtime: &mut R) -> Result<(), Error> {
     Ok(())
 }
 
-/// Sets the index variable and the interrupt of a parent.
-fn fill<R: Runtime>(alloc: Global, parent: &Line, runtime: &mut R) -> Result<(), Fail> {
-    set_spare(alloc, runtime)?;
-    if parent.truth(1)? {
+/// Sets the index variable and the interrupt of a parent. Returns `false` if its row doesn't say whether an interrupt is
+/// set, or if memory runs out.
+fn fill<R: Runtime>(alloc: Global, parent: &Line, runtime: &mut R) -> bool {
+    let Some(is_interrupted) = parent.truth(1) else {
+        return false;
+    };
+    if is_interrupted {
         runtime.registers_mut().interrupt.set(Interrupt::Continue);
     }
-    Ok(())
+    set_spare(alloc, runtime).is_ok()
 }
 
-/// Returns a parent over a store, as lenient as the row.
-pub(crate) fn over<P: Drop>(
-    alloc: Global,
-    parent: &Line,
-    row: &Row,
-    store: P,
-) -> Result<Over<P>, Fail> {
+/// Returns a parent over a store, as lenient as the row, or `None` if it could not be made.
+pub(crate) fn over<P: Drop>(alloc: Global, parent: &Line, row: &Row, store: P) -> Option<Over<P>> {
     let globals = globals_of(alloc, parent)?;
     let mut runtime = built(alloc, globals, store, row.is_lenient());
-    fill(alloc, parent, &mut runtime)?;
-    Ok(runtime)
+    if fill(alloc, parent, &mut runtime) {
+        Some(runtime)
+    } else {
+        None
+    }
 }
 
 /// Returns `true` if both are missing, or both are there and the same.
@@ -109,12 +112,11 @@ fn are_names_kept<R: Runtime>(globals: &Object, after: &R) -> bool {
 }
 
 /// Returns `true` if a runtime has the parent's globals, no other name but index variables, and its interrupt.
-pub(crate) fn is_kept<R: Runtime>(alloc: Global, parent: &Line, after: &R) -> Result<bool, Fail> {
-    let is_interrupted = parent.truth(1)?;
-    let globals = globals_of(alloc, parent)?;
-    let spare = Value::scalar(3i64);
-    let is_kept = are_names_kept(&globals, after)
-        && is_same(Some(&spare), after.get_index("spare"))
-        && after.registers().interrupt.interrupted() == is_interrupted;
-    Ok(is_kept)
+pub(crate) fn is_kept<R: Runtime>(alloc: Global, parent: &Line, after: &R) -> bool {
+    parent.truth(1) == Some(after.registers().interrupt.interrupted())
+        && is_same(Some(&Value::scalar(3i64)), after.get_index("spare"))
+        && match globals_of(alloc, parent) {
+            Some(globals) => are_names_kept(&globals, after),
+            None => false,
+        }
 }

@@ -1,11 +1,12 @@
 //! Rows of the shop's language.
+use crate::sources::is_whole;
 use liquid_core::model::{Object, Value};
 use liquid_core::partials::InMemorySource;
 use liquid_core::{Error, TextSink, render_page_in};
 use shop::languages::language;
 use std::alloc::{AllocError, Global};
 use std::test::Fail;
-use tests_lines::{Line, rows_hold};
+use tests_lines::{Line, holds, rows_hold};
 
 /// Returns globals with this value of `left`.
 fn globals(alloc: Global, left: i64) -> Result<Object, AllocError> {
@@ -14,28 +15,27 @@ fn globals(alloc: Global, left: i64) -> Result<Object, AllocError> {
     Ok(globals)
 }
 
-/// Renders a text in the shop's language over these globals.
-fn render(alloc: Global, text: &str, globals: Object, sink: &mut TextSink) -> Result<(), Error> {
+/// Renders a text in the shop's language over this value of `left`.
+fn render(alloc: Global, text: &str, left: i64, sink: &mut TextSink) -> Result<(), Error> {
+    let globals = globals(alloc, left)?;
     let language = language(alloc)?;
     let partials = InMemorySource::new(alloc);
     render_page_in::<(), _, _, _, _, _>(alloc, text, language, globals, partials, sink)
 }
 
-/// Returns what a text writes over these globals, and the error after it.
-fn written(alloc: Global, text: &str, globals: Object) -> Result<String, Fail> {
+/// Returns `true` if this is what a text writes over this value of `left`, and the error after it.
+fn writes(alloc: Global, text: &str, left: i64, wanted: &str) -> bool {
     let mut sink = TextSink::new(alloc);
-    let answer = render(alloc, text, globals, &mut sink);
-    let mut all = sink.into_string()?;
-    if let Err(error) = answer {
-        all.push_str(error.to_string(alloc)?.as_str())?;
-    }
-    Ok(all)
+    let answer = render(alloc, text, left, &mut sink);
+    is_whole(alloc, sink, answer, wanted)
 }
 
 /// Returns `true` if a text writes what its row says.
-fn holds(alloc: Global, row: &Line) -> Result<bool, Fail> {
-    let written = written(alloc, row.text(0)?, globals(alloc, row.number(1)?)?)?;
-    Ok(written.as_str() == row.text(2)?)
+fn row_holds(alloc: Global, row: &Line) -> bool {
+    match (row.text(0), row.number(1), row.text(2)) {
+        (Some(text), Some(left), Some(wanted)) => writes(alloc, text, left, wanted),
+        _ => false,
+    }
 }
 
 /// A text, the value of `left`, and what is written.
@@ -69,6 +69,6 @@ static ROWS: &str = r#"["{{ 'rain' | upcase }}", 1, "RAIN"]
 
 #[test]
 fn rows_of_the_language(rt: HostRuntime) -> Result<(), Fail> {
-    rows_hold(rt.alloc(), ROWS, holds)?;
-    tests_lines::holds(ROWS.lines().count() == 27, "a table has all its rows")
+    rows_hold(rt.alloc(), ROWS, row_holds)?;
+    holds(ROWS.lines().count() == 27, "a table has all its rows")
 }

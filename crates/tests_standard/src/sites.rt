@@ -1,25 +1,27 @@
 //! Rows in isolation, and in a sandbox if they assign nothing, over each parent.
 use crate::isolated_rows::ISOLATED;
-use crate::parents::{PARENTS, is_kept, over};
-use crate::sources::{data_of, row_of, store_of, whole};
+use crate::parents::{Over, PARENTS, is_kept, over};
+use crate::sources::{data_of, has_result, row_of, store_of};
 use liquid_core::parser::{Language, ParseBlock, ParseFilter, ParseTag, parse};
+use liquid_core::partials::{InMemorySource, LazyStore};
 use liquid_core::runtime::{Runtime, Template};
-use liquid_core::{Discreet, Filter, PartialStore, TextSink};
+use liquid_core::{Discreet, Error, Filter, PartialStore, TextSink};
 use std::alloc::Global;
 use std::rc::Rc;
 use std::test::Fail;
 use std_filters::filters;
 use std_marks::Marks;
-use tests_lines::{Line, Row};
+use tests_lines::{Line, Row, holds};
 
-/// Returns what a row comes to over a parent, in isolation or in a sandbox.
-fn rendered<X, T, B, R>(
+/// Renders a row over a parent, in isolation or in a sandbox.
+fn render<X, T, B, R>(
     alloc: Global,
     page: &Template<X, T, B>,
     row: &Row,
     parent: &mut R,
     is_sandboxed: bool,
-) -> Result<String, Fail>
+    sink: &mut TextSink,
+) -> Result<(), Error>
 where
     X: Filter,
     T: Discreet<Marks>,
@@ -28,23 +30,22 @@ where
     R::Store: PartialStore<X, T, B>,
 {
     let data = data_of(alloc, row)?;
-    let mut sink = TextSink::new(alloc);
-    let answer = if is_sandboxed {
-        page.render_sandboxed(alloc, &mut sink, parent, data, None)
+    if is_sandboxed {
+        page.render_sandboxed(alloc, sink, parent, data, None)
     } else {
-        page.render_isolated(alloc, &mut sink, parent, data, None)
-    };
-    whole(alloc, sink, answer)
+        page.render_isolated(alloc, sink, parent, data, None)
+    }
 }
 
-/// Returns `true` if a page comes to what its row says over a parent, in isolation or in a sandbox.
-fn is_whole<X, T, B, R>(
+/// Returns `true` if a page comes to what its row says over a runtime of a parent, and leaves the runtime as it was.
+fn is_rendered<X, T, B, R>(
     alloc: Global,
     page: &Template<X, T, B>,
     row: &Row,
-    parent: &mut R,
+    parent: &Line,
+    runtime: &mut R,
     is_sandboxed: bool,
-) -> Result<bool, Fail>
+) -> bool
 where
     X: Filter,
     T: Discreet<Marks>,
@@ -52,28 +53,24 @@ where
     R: Runtime<Register = Marks>,
     R::Store: PartialStore<X, T, B>,
 {
-    let written = rendered(alloc, page, row, parent, is_sandboxed)?;
-    Ok(row.is_whole(written.as_str()))
+    let mut sink = TextSink::new(alloc);
+    let answer = render(alloc, page, row, runtime, is_sandboxed, &mut sink);
+    has_result(alloc, row, sink.as_bytes(), answer) && is_kept(alloc, parent, &*runtime)
 }
 
-/// Returns `true` if a page comes to what its row says over a runtime of a parent, and leaves the runtime as it was.
-fn is_whole_over<X, T, B, R>(
+/// Returns a runtime of a parent over a store of its own, or `None` if it could not be made.
+fn runtime_over<F, T, B>(
     alloc: Global,
-    page: &Template<X, T, B>,
+    language: &Rc<Language<F, T, B>>,
     row: &Row,
     parent: &Line,
-    mut runtime: R,
-    is_sandboxed: bool,
-) -> Result<bool, Fail>
+) -> Option<Over<LazyStore<InMemorySource, F, T, B>>>
 where
-    X: Filter,
-    T: Discreet<Marks>,
-    B: Discreet<Marks>,
-    R: Runtime<Register = Marks> + Drop,
-    R::Store: PartialStore<X, T, B>,
+    F: ParseFilter + Drop,
+    T: ParseTag<F> + Drop,
+    B: ParseBlock<F> + Drop,
 {
-    let is_whole = is_whole(alloc, page, row, &mut runtime, is_sandboxed)?;
-    Ok(is_kept(alloc, parent, &runtime)? && is_whole)
+    over(alloc, parent, row, store_of(alloc, row, language)?)
 }
 
 /// Returns `true` if a page comes to what its row says over a parent, and leaves the parent as it was.
@@ -84,7 +81,7 @@ fn holds_over<F, T, B>(
     row: &Row,
     parent: &Line,
     is_sandboxed: bool,
-) -> Result<bool, Fail>
+) -> bool
 where
     F: ParseFilter + Drop,
     T: ParseTag<F> + Drop,
@@ -92,18 +89,20 @@ where
     T::Node: Discreet<Marks>,
     B::Node: Discreet<Marks>,
 {
-    let runtime = over(alloc, parent, row, store_of(alloc, row, language)?)?;
-    is_whole_over(alloc, page, row, parent, runtime, is_sandboxed)
+    match runtime_over(alloc, language, row, parent) {
+        Some(mut runtime) => is_rendered(alloc, page, row, parent, &mut runtime, is_sandboxed),
+        None => false,
+    }
 }
 
-/// Returns `true` if a parsed row holds over a parent in isolation, and in a sandbox if it says so.
-fn holds_in_both<F, T, B>(
+/// Returns `true` if a parsed row holds over the parent of a line in isolation, and in a sandbox if it says so.
+fn holds_within<F, T, B>(
     alloc: Global,
     language: &Rc<Language<F, T, B>>,
     page: &Template<F::Filter, T::Node, B::Node>,
     row: &Row,
-    parent: &Line,
-) -> Result<bool, Fail>
+    line: &str,
+) -> bool
 where
     F: ParseFilter + Drop,
     T: ParseTag<F> + Drop,
@@ -111,11 +110,13 @@ where
     T::Node: Discreet<Marks>,
     B::Node: Discreet<Marks>,
 {
-    let is_isolated = holds_over(alloc, language, page, row, parent, false)?;
-    if row.member("is_sandboxed").is_some() {
-        Ok(holds_over(alloc, language, page, row, parent, true)? && is_isolated)
-    } else {
-        Ok(is_isolated)
+    match Line::of(alloc, line) {
+        Some(parent) => {
+            holds_over(alloc, language, page, row, &parent, false)
+                && (row.member("is_sandboxed").is_none()
+                    || holds_over(alloc, language, page, row, &parent, true))
+        }
+        None => false,
     }
 }
 
@@ -125,7 +126,7 @@ fn holds_over_each<F, T, B>(
     language: &Rc<Language<F, T, B>>,
     page: &Template<F::Filter, T::Node, B::Node>,
     row: &Row,
-) -> Result<bool, Fail>
+) -> bool
 where
     F: ParseFilter + Drop,
     T: ParseTag<F> + Drop,
@@ -134,15 +135,15 @@ where
     B::Node: Discreet<Marks>,
 {
     for line in PARENTS.lines() {
-        if !holds_in_both(alloc, language, page, row, &Line::of(alloc, line)?)? {
-            return Ok(false);
+        if !holds_within(alloc, language, page, row, line) {
+            return false;
         }
     }
-    Ok(true)
+    true
 }
 
 /// Returns `true` if a row holds over each parent, or has the error of its text.
-fn holds<F, T, B>(alloc: Global, language: &Rc<Language<F, T, B>>, row: &Row) -> Result<bool, Fail>
+fn row_holds<F, T, B>(alloc: Global, language: &Rc<Language<F, T, B>>, row: &Row) -> bool
 where
     F: ParseFilter + Drop,
     T: ParseTag<F> + Drop,
@@ -152,16 +153,12 @@ where
 {
     match parse(alloc, row.template(), language) {
         Ok(nodes) => holds_over_each(alloc, language, &Template::new(nodes), row),
-        Err(error) => Ok(row.is_whole(error.to_string(alloc)?.as_str())),
+        Err(error) => has_result(alloc, row, b"", Err(error)),
     }
 }
 
 /// Returns `true` if the row of a line holds.
-fn line_holds<F, T, B>(
-    alloc: Global,
-    language: &Rc<Language<F, T, B>>,
-    line: &str,
-) -> Result<bool, Fail>
+fn line_holds<F, T, B>(alloc: Global, language: &Rc<Language<F, T, B>>, line: &str) -> bool
 where
     F: ParseFilter + Drop,
     T: ParseTag<F> + Drop,
@@ -169,7 +166,10 @@ where
     T::Node: Discreet<Marks>,
     B::Node: Discreet<Marks>,
 {
-    holds(alloc, language, &row_of(alloc, line)?)
+    match row_of(alloc, line) {
+        Some(row) => row_holds(alloc, language, &row),
+        None => false,
+    }
 }
 
 /// Fails for the first row that does not hold in a language.
@@ -182,7 +182,7 @@ where
     B::Node: Discreet<Marks>,
 {
     for line in ISOLATED.lines() {
-        if !line_holds(alloc, language, line)? {
+        if !line_holds(alloc, language, line) {
             return Err(Fail::new(format_args!("this row doesn't hold: {line}")));
         }
     }
@@ -198,5 +198,5 @@ fn all_hold_in_the_standard(alloc: Global) -> Result<(), Fail> {
 #[test]
 fn rows_in_isolation(rt: HostRuntime) -> Result<(), Fail> {
     all_hold_in_the_standard(rt.alloc())?;
-    tests_lines::holds(ISOLATED.lines().count() == 54, "a table has all its rows")
+    holds(ISOLATED.lines().count() == 54, "a table has all its rows")
 }

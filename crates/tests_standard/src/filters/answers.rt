@@ -4,23 +4,43 @@ use liquid_json::to_value;
 use liquid_value::render::ValueSource;
 use liquid_value::{Value, ValueCow};
 use serde_json::Value as Json;
-use std::alloc::{AllocError, Global};
-use std::test::Fail;
-use tests_lines::Line;
+use std::alloc::Global;
+use tests_lines::{Line, is_text};
 
-/// Returns `true` if a filter's answer is what its row says: the source of a value, or the text of an error. `answered`
-/// calls a filter by its name.
-pub(crate) fn is_answered<A>(alloc: Global, row: &Line, answered: A) -> Result<bool, Fail>
-where
-    A: Fn(Global, &str, &Value, &[ValueCow<'_>]) -> Result<Value, Error>,
-    requires { A.IsAlwaysCallable answered }
-{
-    let (filter, wanted) = (row.text(0)?, row.text(3)?);
-    let (input, arguments) = (row.member(1)?, row.list(2)?);
-    let input = to_value(alloc, input)?;
-    let arguments = values_of(alloc, arguments.as_slice())?;
-    let answer = answered(alloc, filter, &input, arguments.as_slice());
-    Ok(source_of(alloc, answer)?.as_str() == wanted)
+/// A call of a filter, and what it should return.
+#[derive(Drop)]
+pub(crate) struct Call<'r> {
+    pub(crate) filter: &'r str,
+    pub(crate) input: Value,
+    pub(crate) arguments: Vec<ValueCow<'static>>,
+    wanted: &'r str,
+}
+
+impl<'r> Call<'r> {
+    /// Returns the call of a row: a filter, its input, its arguments, and the source of what it returns, or the text of
+    /// its error. Returns `None` for a row without them, or if memory runs out.
+    pub(crate) fn of(alloc: Global, row: &'r Line) -> Option<Call<'r>> {
+        match (row.text(0), row.member(1), row.list(2), row.text(3)) {
+            (Some(filter), Some(input), Some(arguments), Some(wanted)) => {
+                let input = to_value(alloc, input).ok()?;
+                Some(Call {
+                    filter,
+                    input,
+                    arguments: values_of(alloc, arguments.as_slice()).ok()?,
+                    wanted,
+                })
+            }
+            _ => None,
+        }
+    }
+
+    /// Returns `true` if a filter's answer is what it should return.
+    pub(crate) fn returns(&self, alloc: Global, answer: Result<Value, Error>) -> bool {
+        match answer {
+            Ok(value) => is_text(ValueSource::new(&value).to_string(alloc), self.wanted),
+            Err(error) => is_text(error.to_string(alloc), self.wanted),
+        }
+    }
 }
 
 /// Returns the values of a list.
@@ -30,12 +50,4 @@ fn values_of<'a>(alloc: Global, list: &[Json]) -> Result<Vec<ValueCow<'a>>, Erro
         values.push(ValueCow::Owned(to_value(alloc, json)?))?;
     }
     Ok(values)
-}
-
-/// Returns the source of a value, or the text of an error.
-fn source_of(alloc: Global, answer: Result<Value, Error>) -> Result<String, AllocError> {
-    match answer {
-        Ok(value) => ValueSource::new(&value).to_string(alloc),
-        Err(error) => error.to_string(alloc),
-    }
 }

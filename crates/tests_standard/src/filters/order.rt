@@ -1,5 +1,5 @@
 //! Rows of the filters that put a list in order.
-use super::answers;
+use super::answers::Call;
 use liquid_error::Error;
 use liquid_value::{Value, ValueCow};
 use std::alloc::Global;
@@ -30,8 +30,14 @@ fn answered(
 }
 
 /// Returns `true` if a filter returns what its row says.
-fn is_answered(alloc: Global, row: &Line) -> Result<bool, Fail> {
-    answers::is_answered(alloc, row, answered)
+fn is_answered(alloc: Global, row: &Line) -> bool {
+    match Call::of(alloc, row) {
+        Some(call) => {
+            let answer = answered(alloc, call.filter, &call.input, call.arguments.as_slice());
+            call.returns(alloc, answer)
+        }
+        None => false,
+    }
 }
 
 #[test]
