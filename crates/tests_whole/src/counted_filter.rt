@@ -4,6 +4,8 @@ ghost use Rattle.std.specs.Prelude.{codes, Ok};
 ghost use Rattle.liquid_value.specs.meaning.Tree.{nil};
 
 use crate::given::no_names;
+use crate::kinds::add;
+use crate::partial_rows::{are_names, requests};
 use liquid_core::model::{Value, ValueCow};
 use liquid_core::parser::{
     Filter, FilterArguments, FilterReflection, Language, Meant, NoPlugin, ParameterReflection,
@@ -12,7 +14,7 @@ use liquid_core::parser::{
 use liquid_core::partials::{InMemorySource, OnDemandCompiler, OnDemandStore, PartialCompiler};
 use liquid_core::runtime::{Runtime, Template};
 use liquid_core::{Error, PartialStore, TextSink};
-use std::alloc::{AllocError, Global};
+use std::alloc::Global;
 use std::cell::Cell;
 use std::rc::Rc;
 use std::test::Fail;
@@ -83,105 +85,150 @@ impl Filter for Counted {
     }
 }
 
+/// Returns counts of how often the filter was made and called, or `None` if there is no memory for one.
+fn counts_of(made: Option<Rc<Cell<u64>>>, calls: Option<Rc<Cell<u64>>>) -> Option<Counted> {
+    match made.zip(calls) {
+        Some((made, calls)) => Some(Counted { made, calls }),
+        None => None,
+    }
+}
+
 /// Returns how often the filter was made, and how often it was called: not yet.
-fn no_counts(alloc: Global) -> Result<Counted, AllocError> {
-    let made = Rc::new(alloc, Cell::new(0u64))?;
-    let calls = Rc::new(alloc, Cell::new(0u64))?;
-    Ok(Counted { made, calls })
+fn no_counts(alloc: Global) -> Option<Counted> {
+    counts_of(
+        Rc::new(alloc, Cell::new(0)).ok(),
+        Rc::new(alloc, Cell::new(0)).ok(),
+    )
 }
 
 /// Returns a plug-in that shares these counts.
-fn sharing(counts: &Counted) -> Result<Counted, AllocError> {
-    Ok(Counted {
-        made: counts.made.clone()?,
-        calls: counts.calls.clone()?,
-    })
+fn sharing(counts: &Counted) -> Option<Counted> {
+    counts_of(counts.made.clone().ok(), counts.calls.clone().ok())
 }
 
 /// Returns a language of a filter alone.
-fn language_of<F>(alloc: Global, filter: F) -> Result<Language<F, NoPlugin, NoPlugin>, AllocError>
+fn language_of<F>(alloc: Global, filter: Option<F>) -> Option<Language<F, NoPlugin, NoPlugin>>
 where
     F: FilterReflection + Drop,
 {
     let mut language = Language::empty(alloc);
-    language.add_filter(alloc, filter)?;
-    Ok(language)
+    let is_added = match filter {
+        Some(filter) => language.add_filter(alloc, filter).is_ok(),
+        None => false,
+    };
+    if is_added { Some(language) } else { None }
 }
 
-/// Renders a text in a language of a filter alone, and drops what it writes.
-fn render_once<F, R>(alloc: Global, text: &str, filter: F, mut runtime: R) -> Result<(), Fail>
+/// Returns `true` if a text in a language of a filter alone is rendered as a text.
+fn is_rendered<F, R>(
+    alloc: Global,
+    text: &str,
+    language: &Language<F, NoPlugin, NoPlugin>,
+    mut runtime: R,
+) -> bool
 where
     F: ParseFilter + Drop,
     R: Runtime<Register = (), Store = ()> + Drop,
 {
-    let nodes = parse(alloc, text, &language_of(alloc, filter)?)?;
-    let mut sink = TextSink::new(alloc);
-    Template::new(nodes).render_to(alloc, &mut sink, &mut runtime)?;
-    drop(sink.into_string()?);
-    Ok(())
+    match parse(alloc, text, language) {
+        Ok(nodes) => {
+            let mut sink = TextSink::new(alloc);
+            let answer = Template::new(nodes).render_to(alloc, &mut sink, &mut runtime);
+            answer.is_ok() && sink.into_string().is_ok()
+        }
+        Err(_) => false,
+    }
 }
 
-/// Renders a text, and returns how often the filter was called.
-fn calls_of(alloc: Global, text: &str) -> Result<u64, Fail> {
-    let counts = no_counts(alloc)?;
-    render_once(alloc, text, sharing(&counts)?, no_names(alloc))?;
-    Ok(counts.calls.get())
+/// Returns `true` if a text is rendered in a language of a filter alone.
+fn renders<F>(alloc: Global, text: &str, filter: Option<F>) -> bool
+where
+    F: ParseFilter + Drop,
+{
+    match language_of(alloc, filter) {
+        Some(language) => is_rendered(alloc, text, &language, no_names(alloc)),
+        None => false,
+    }
+}
+
+/// Returns `true` if rendering a text calls the filter that often.
+fn calls(alloc: Global, text: &str, wanted: u64) -> bool {
+    match no_counts(alloc) {
+        Some(counts) => renders(alloc, text, sharing(&counts)) && counts.calls.get() == wanted,
+        None => false,
+    }
 }
 
 #[test]
 fn each_filter_is_called_once(rt: HostRuntime) -> Result<(), Fail> {
     let alloc = rt.alloc();
-    holds(calls_of(alloc, "{{ 5 | counted }}")? == 1, "one filter")?;
+    holds(calls(alloc, "{{ 5 | counted }}", 1), "one filter")?;
     holds(
-        calls_of(alloc, "{{ 5 | counted | counted }}{{ 5 }}")? == 2,
+        calls(alloc, "{{ 5 | counted | counted }}{{ 5 }}", 2),
         "two filters",
     )
 }
 
 /// Returns a source of a text that has the name `p`.
-fn source(alloc: Global, text: &str) -> Result<InMemorySource, AllocError> {
+fn source(alloc: Global) -> Option<InMemorySource> {
     let mut source = InMemorySource::new(alloc);
-    source.add(
-        String::from_str(alloc, "p")?,
-        String::from_str(alloc, text)?,
-    )?;
-    Ok(source)
+    if add(alloc, &mut source, "p", "{{ 5 | counted }}").is_ok() {
+        Some(source)
+    } else {
+        None
+    }
 }
 
 /// Returns a store that reads that text at each request, in a language of a filter alone.
 fn store<F>(
     alloc: Global,
-    filter: F,
-) -> Result<OnDemandStore<InMemorySource, F, NoPlugin, NoPlugin>, AllocError>
+    filter: Option<F>,
+) -> Option<OnDemandStore<InMemorySource, F, NoPlugin, NoPlugin>>
 where
     F: ParseFilter + Drop,
 {
-    let language = Rc::new(alloc, language_of(alloc, filter)?)?;
-    OnDemandCompiler::new(source(alloc, "{{ 5 | counted }}")?).compile(alloc, language)
+    let language = Rc::new(alloc, language_of(alloc, filter)?).ok()?;
+    match source(alloc) {
+        Some(source) => OnDemandCompiler::new(source).compile(alloc, language).ok(),
+        None => None,
+    }
 }
 
-/// Fails for a store that parses its text before a request, or more than once for one.
-fn parses_once<S, X, T, B>(alloc: Global, mut store: S, counts: &Counted) -> Result<(), Fail>
+/// Returns `true` if a store parses its text once for a request and not beforehand, and does not render it.
+fn parses_once<S, X, T, B>(alloc: Global, store: Option<S>, counts: &Counted) -> bool
 where
     S: PartialStore<X, T, B> + Drop,
     X: Filter,
     T: Meant + Drop,
     B: Meant + Drop,
 {
-    holds(store.names(alloc)?.len() == 1, "there is one name")?;
-    holds(counts.made.get() == 0, "no text is parsed beforehand")?;
-    holds(
-        store.try_get(alloc, "p")?.is_some(),
-        "the text is a template",
-    )?;
-    holds(counts.made.get() == 1, "the text is parsed once")?;
-    holds(counts.calls.get() == 0, "and not rendered")
+    match store {
+        Some(mut store) => {
+            are_names(alloc, store.names(alloc), "p")
+                && counts.made.get() == 0
+                && requests::<S, X, T, B>(alloc, &mut store, "p", true)
+                && counts.made.get() == 1
+                && counts.calls.get() == 0
+        }
+        None => false,
+    }
+}
+
+/// Returns `true` if a request parses its text once.
+fn request_parses_once(alloc: Global) -> bool {
+    match no_counts(alloc) {
+        Some(counts) => {
+            let store = store(alloc, sharing(&counts));
+            parses_once::<_, Counted, NoPlugin, NoPlugin>(alloc, store, &counts)
+        }
+        None => false,
+    }
 }
 
 #[test]
 fn a_request_parses_its_text_once(rt: HostRuntime) -> Result<(), Fail> {
-    let alloc = rt.alloc();
-    let counts = no_counts(alloc)?;
-    let store = store(alloc, sharing(&counts)?)?;
-    parses_once::<_, Counted, NoPlugin, NoPlugin>(alloc, store, &counts)
+    holds(
+        request_parses_once(rt.alloc()),
+        "a request parses its text once",
+    )
 }

@@ -2,7 +2,6 @@
 use crate::languages::plain_tables_hold;
 use crate::nested::nested_language;
 use crate::pages::tables_hold;
-use std::rc::Rc;
 use std::test::Fail;
 
 /// Bodies with starts that don't nest: the first end ends the block.
@@ -30,6 +29,5 @@ const NESTED: &str = r#"{"template": "{% raw %}a{% endraw %}b", "written": "ab"}
 fn bodies_are_escaped(rt: HostRuntime) -> Result<(), Fail> {
     let alloc = rt.alloc();
     plain_tables_hold(alloc, &[(FLAT, 7)], false)?;
-    let nested = Rc::new(alloc, nested_language(alloc)?)?;
-    tables_hold(alloc, &[(NESTED, 10)], false, &nested)
+    tables_hold(alloc, &[(NESTED, 10)], false, nested_language(alloc))
 }

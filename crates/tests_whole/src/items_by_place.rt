@@ -1,39 +1,54 @@
 //! The items of a loop, by their places.
 use crate::given::runtime_of;
-use liquid_core::model::ValueRender;
+use liquid_core::Error;
+use liquid_core::model::{Scalar, ValueRender};
 use liquid_core::runtime::Expression;
 use liquid_tags::for_block::items::Items;
 use liquid_tags::for_block::series::{Series, items_of};
 use std::alloc::Global;
 use std::test::Fail;
-use tests_lines::{holds, same};
+use tests_lines::{holds, is_text};
 
-/// Returns the text of the item at a place, or `-` if there is none.
-fn shown(alloc: Global, items: &Items, place: u64) -> Result<String, Fail> {
-    match items.get(place)? {
-        Some(item) => Ok(ValueRender::new(&item).to_string(alloc)?),
-        None => Ok(String::from_str(alloc, "-")?),
+/// Returns `true` if the item at a place has this text, or if there is none and the text is `-`.
+fn is_shown(alloc: Global, items: &Items, place: u64, wanted: &str) -> bool {
+    match items.get(place) {
+        Ok(Some(item)) => is_text(ValueRender::new(&item).to_string(alloc), wanted),
+        Ok(None) => wanted == "-",
+        Err(_) => false,
     }
 }
 
-/// Fails for an item at a place that has another text.
-fn is_shown(alloc: Global, items: &Items, place: u64, wanted: &str) -> Result<(), Fail> {
-    same(shown(alloc, items, place)?.as_str(), wanted)
+/// Returns `true` for three items of which the first and the last have these texts.
+fn are_by_place(alloc: Global, items: Result<Items, Error>, first: &str, last: &str) -> bool {
+    match items {
+        Ok(items) => {
+            items.len() == 3
+                && is_shown(alloc, &items, 0, first)
+                && is_shown(alloc, &items, 2, last)
+                && is_shown(alloc, &items, 3, "-")
+                && is_shown(alloc, &items, u64::MAX, "-")
+        }
+        Err(_) => false,
+    }
 }
 
-/// Returns the items of a series, of which a list has the name `a`.
-fn items_over(alloc: Global, series: &Series) -> Result<Items, Fail> {
-    let runtime = runtime_of(alloc, r#"{"a": [5, "b", null]}"#)?;
-    Ok(items_of(alloc, series, &runtime)?)
+/// Returns `true` if the items of a series are such, where a list has the name `a`.
+fn has_places(alloc: Global, series: &Series, first: &str, last: &str) -> bool {
+    match runtime_of(alloc, r#"{"a": [5, "b", null]}"#) {
+        Some(runtime) => are_by_place(alloc, items_of(alloc, series, &runtime), first, last),
+        None => false,
+    }
 }
 
-fn are_by_place(alloc: Global, series: &Series, first: &str, last: &str) -> Result<(), Fail> {
-    let items = items_over(alloc, series)?;
-    holds(items.len() == 3, "there are three items")?;
-    is_shown(alloc, &items, 0, first)?;
-    is_shown(alloc, &items, 2, last)?;
-    is_shown(alloc, &items, 3, "-")?;
-    is_shown(alloc, &items, u64::MAX, "-")
+/// Returns `true` if the items of the list `a` are such.
+fn list_has_places(alloc: Global, first: &str, last: &str) -> bool {
+    match String::from_str(alloc, "a") {
+        Ok(name) => {
+            let list = Expression::of_parts(Scalar::new(name), Vec::new(alloc));
+            has_places(alloc, &Series::Of(list), first, last)
+        }
+        Err(_) => false,
+    }
 }
 
 #[test]
@@ -41,8 +56,8 @@ fn items_have_places(rt: HostRuntime) -> Result<(), Fail> {
     let alloc = rt.alloc();
     let from = Expression::with_literal(-1);
     let to = Expression::with_literal(1);
-    are_by_place(alloc, &Series::Between(from, to), "-1", "1")?;
-    let name = liquid_core::model::Scalar::new(String::from_str(alloc, "a")?);
-    let list = Expression::of_parts(name, Vec::new(alloc));
-    are_by_place(alloc, &Series::Of(list), "5", "")
+    holds(
+        has_places(alloc, &Series::Between(from, to), "-1", "1") && list_has_places(alloc, "5", ""),
+        "items have places",
+    )
 }

@@ -1,9 +1,8 @@
 //! Every join of up to three pieces is read and rendered.
-use crate::given::runtime_over;
+use crate::given::runtime_of;
 use bench::languages::language;
-use liquid_core::model::{Object, Value};
 use liquid_core::parser::{Language, ParseBlock, ParseFilter, ParseTag, parse};
-use liquid_core::runtime::{BuiltRuntime, Renderable, Runtime, Template};
+use liquid_core::runtime::{Renderable, Runtime, Template};
 use liquid_core::{Error, PartialStore, TextSink, render_source};
 use std::alloc::{AllocError, Global};
 use std::test::Fail;
@@ -24,40 +23,16 @@ const PIECES: [&str; 12] = [
     "{{ 4.5 }}",
 ];
 
-/// Returns a runtime in which `a` is 1.
-fn around(alloc: Global) -> Result<BuiltRuntime<(), ()>, AllocError> {
-    let mut globals = Object::new(alloc);
-    globals.insert(String::from_str(alloc, "a")?, Value::scalar(1i64))?;
-    Ok(runtime_over(alloc, globals))
-}
+/// What the texts see.
+const NAMES: &str = r#"{"a": 1}"#;
 
-/// Fails if the error of a join is out of memory.
-fn refused(error: &Error) -> Result<(), Fail> {
-    if error.is_memory() {
-        Err(Fail::from("a join runs out of memory"))
-    } else {
-        Ok(())
-    }
-}
-
-/// Returns what a template is rendered as, or `None` if it has an error.
-fn shown(answer: Result<String, Error>) -> Result<Option<String>, Fail> {
-    match answer {
-        Ok(shown) => Ok(Some(shown)),
-        Err(error) => {
-            refused(&error)?;
-            Ok(None)
-        }
-    }
-}
-
-/// Returns what a text is rendered as when it is parsed first, or `None` if it has an error.
+/// Returns what a text is rendered as when it is parsed first.
 fn rendered<F, T, B, R>(
     alloc: Global,
     language: &Language<F, T, B>,
     text: &str,
     mut runtime: R,
-) -> Result<Option<String>, Fail>
+) -> Result<String, Error>
 where
     F: ParseFilter + Drop,
     T: ParseTag<F> + Drop,
@@ -67,27 +42,23 @@ where
     R: Runtime<Register = ()> + Drop,
     R::Store: PartialStore<F::Filter, T::Node, B::Node>,
 {
-    match parse(alloc, text, language) {
-        Ok(nodes) => shown(Template::new(nodes).render(alloc, &mut runtime)),
-        Err(error) => shown(Err(error)),
+    let page = Template::new(parse(alloc, text, language)?);
+    page.render(alloc, &mut runtime)
+}
+
+/// Returns `true` if a call has an error that is not out of memory.
+fn is_refused(answer: &Result<(), Error>) -> bool {
+    match answer {
+        Ok(()) => false,
+        Err(error) => !error.is_memory(),
     }
 }
 
-/// Returns `true` if a call in one has the result of a text that is parsed first.
-fn is_same(
-    sink: &TextSink,
-    answer: Result<(), Error>,
-    shown: &Option<String>,
-) -> Result<bool, Fail> {
-    match answer {
-        Ok(()) => match shown {
-            Some(shown) => Ok(sink.as_bytes() == shown.as_bytes()),
-            None => Ok(false),
-        },
-        Err(error) => {
-            refused(&error)?;
-            Ok(shown.is_none())
-        }
+/// Returns `true` if a call in one has the result of a text that is parsed first, and neither is out of memory.
+fn is_same(sink: &TextSink, answer: &Result<(), Error>, rendered: &Result<String, Error>) -> bool {
+    match rendered {
+        Ok(text) => answer.is_ok() && sink.as_bytes() == text.as_bytes(),
+        Err(error) => !error.is_memory() && is_refused(answer),
     }
 }
 
@@ -96,9 +67,9 @@ fn is_same_at_once<F, T, B, R>(
     alloc: Global,
     language: &Language<F, T, B>,
     text: &str,
-    mut runtime: R,
-    shown: &Option<String>,
-) -> Result<bool, Fail>
+    runtime: Option<R>,
+    rendered: Result<String, Error>,
+) -> bool
 where
     F: ParseFilter + Drop,
     T: ParseTag<F> + Drop,
@@ -108,13 +79,18 @@ where
     R: Runtime<Register = ()> + Drop,
     R::Store: PartialStore<F::Filter, T::Node, B::Node>,
 {
-    let mut sink = TextSink::new(alloc);
-    let answer = render_source(alloc, text, language, &mut runtime, &mut sink);
-    is_same(&sink, answer, shown)
+    match runtime {
+        Some(mut runtime) => {
+            let mut sink = TextSink::new(alloc);
+            let answer = render_source(alloc, text, language, &mut runtime, &mut sink);
+            is_same(&sink, &answer, &rendered)
+        }
+        None => false,
+    }
 }
 
-/// Parses and renders a text, and does so again in one call, which must have the same result. Returns 1.
-fn tried<F, T, B>(alloc: Global, language: &Language<F, T, B>, text: &str) -> Result<usize, Fail>
+/// Returns `true` if a text that is parsed and rendered has the same result in one call.
+fn is_tried<F, T, B>(alloc: Global, language: &Language<F, T, B>, text: &str) -> bool
 where
     F: ParseFilter + Drop,
     T: ParseTag<F> + Drop,
@@ -122,16 +98,22 @@ where
     T::Node: Renderable<()>,
     B::Node: Renderable<()>,
 {
-    let shown = rendered(alloc, language, text, around(alloc)?)?;
-    if is_same_at_once(alloc, language, text, around(alloc)?, &shown)? {
-        Ok(1)
-    } else {
-        Err(Fail::from("a join in one call comes to something else"))
+    match runtime_of(alloc, NAMES) {
+        Some(runtime) => {
+            let rendered = rendered(alloc, language, text, runtime);
+            is_same_at_once(alloc, language, text, runtime_of(alloc, NAMES), rendered)
+        }
+        None => false,
     }
 }
 
-/// Tries a text, and the text followed by each piece. Returns how many texts these are.
-fn followed<F, T, B>(alloc: Global, language: &Language<F, T, B>, text: &str) -> Result<usize, Fail>
+/// Tries the join of three pieces, and counts it.
+fn tries<F, T, B>(
+    alloc: Global,
+    language: &Language<F, T, B>,
+    (first, second, third): (&str, &str, &str),
+    count: &mut usize,
+) -> bool
 where
     F: ParseFilter + Drop,
     T: ParseTag<F> + Drop,
@@ -139,16 +121,63 @@ where
     T::Node: Renderable<()>,
     B::Node: Renderable<()>,
 {
-    let mut count = tried(alloc, language, text)?;
-    for piece in PIECES {
-        let joined = format!(in alloc; "{text}{piece}")?;
-        count = count.saturating_add(tried(alloc, language, joined.as_str())?);
+    *count = count.saturating_add(1);
+    match format!(in alloc; "{first}{second}{third}") {
+        Ok(text) => is_tried(alloc, language, text.as_str()),
+        Err(_) => false,
     }
-    Ok(count)
 }
 
-/// Tries each piece, and each followed by one and by two pieces. Returns how many texts these are.
-fn all_tried<F, T, B>(alloc: Global, language: &Language<F, T, B>) -> Result<usize, Fail>
+/// Tries the join of two pieces, and that of them and each piece, and counts these texts.
+fn tries_followed<F, T, B>(
+    alloc: Global,
+    language: &Language<F, T, B>,
+    (first, second): (&str, &str),
+    count: &mut usize,
+) -> bool
+where
+    F: ParseFilter + Drop,
+    T: ParseTag<F> + Drop,
+    B: ParseBlock<F> + Drop,
+    T::Node: Renderable<()>,
+    B::Node: Renderable<()>,
+{
+    for third in PIECES {
+        if !tries(alloc, language, (first, second, third), count) {
+            return false;
+        }
+    }
+    tries(alloc, language, (first, second, ""), count)
+}
+
+/// Tries each piece, and each followed by one and by two pieces, and counts these texts.
+fn tries_all<F, T, B>(alloc: Global, language: &Language<F, T, B>, count: &mut usize) -> bool
+where
+    F: ParseFilter + Drop,
+    T: ParseTag<F> + Drop,
+    B: ParseBlock<F> + Drop,
+    T::Node: Renderable<()>,
+    B::Node: Renderable<()>,
+{
+    for first in PIECES {
+        for second in PIECES {
+            if !tries_followed(alloc, language, (first, second), count) {
+                return false;
+            }
+        }
+        if !tries(alloc, language, (first, "", ""), count) {
+            return false;
+        }
+    }
+    true
+}
+
+/// Returns `true` if each of that many joins has the same result in one call.
+fn are_tried<F, T, B>(
+    alloc: Global,
+    language: Result<Language<F, T, B>, AllocError>,
+    wanted: usize,
+) -> bool
 where
     F: ParseFilter + Drop,
     T: ParseTag<F> + Drop,
@@ -157,21 +186,19 @@ where
     B::Node: Renderable<()>,
 {
     let mut count = 0usize;
-    for first in PIECES {
-        count = count.saturating_add(tried(alloc, language, first)?);
-        for second in PIECES {
-            let two = format!(in alloc; "{first}{second}")?;
-            count = count.saturating_add(followed(alloc, language, two.as_str())?);
-        }
+    match language {
+        Ok(language) => tries_all(alloc, &language, &mut count) && count == wanted,
+        Err(_) => false,
     }
-    Ok(count)
 }
 
 #[test]
 fn joins_of_three_pieces_find_memory(rt: HostRuntime) -> Result<(), Fail> {
-    let alloc = rt.alloc();
-    let count = all_tried(alloc, &language(alloc)?)?;
-    holds(count == 12 + 12 * 12 + 12 * 12 * 12, "each join is tried")
+    let wanted = 12 + 12 * 12 + 12 * 12 * 12;
+    holds(
+        are_tried(rt.alloc(), language(rt.alloc()), wanted),
+        "each join is tried, and has the same result in one call",
+    )
 }
 
 /// Texts with what they are rendered as.
@@ -185,13 +212,21 @@ static ROWS: [(&str, Option<&str>); 7] = [
     ("{{ 4.5 }}", None),
 ];
 
-/// Returns `true` if a text is rendered as `wanted`, or has an error if that is `None`.
+/// Returns `true` if a text is rendered as `wanted`, or has an error if that is `None`, which is not out of memory.
+fn comes_to(rendered: Result<String, Error>, wanted: Option<&str>) -> bool {
+    match rendered {
+        Ok(text) => wanted == Some(text.as_str()),
+        Err(error) => wanted.is_none() && !error.is_memory(),
+    }
+}
+
+/// Returns `true` if a text in a language is rendered as its row says.
 fn is_meant<F, T, B>(
     alloc: Global,
     language: &Language<F, T, B>,
     text: &str,
     wanted: Option<&str>,
-) -> Result<bool, Fail>
+) -> bool
 where
     F: ParseFilter + Drop,
     T: ParseTag<F> + Drop,
@@ -199,15 +234,17 @@ where
     T::Node: Renderable<()>,
     B::Node: Renderable<()>,
 {
-    match (rendered(alloc, language, text, around(alloc)?)?, wanted) {
-        (Some(shown), Some(wanted)) => Ok(shown.as_str() == wanted),
-        (None, None) => Ok(true),
-        _ => Ok(false),
+    match runtime_of(alloc, NAMES) {
+        Some(runtime) => comes_to(rendered(alloc, language, text, runtime), wanted),
+        None => false,
     }
 }
 
 /// Fails for the first text that is not rendered as its row says.
-fn are_meant<F, T, B>(alloc: Global, language: &Language<F, T, B>) -> Result<(), Fail>
+fn are_meant<F, T, B>(
+    alloc: Global,
+    language: Result<Language<F, T, B>, AllocError>,
+) -> Result<(), Fail>
 where
     F: ParseFilter + Drop,
     T: ParseTag<F> + Drop,
@@ -215,13 +252,14 @@ where
     T::Node: Renderable<()>,
     B::Node: Renderable<()>,
 {
+    let language = language?;
     for (text, wanted) in &ROWS {
-        holds(is_meant(alloc, language, text, *wanted)?, text)?;
+        holds(is_meant(alloc, &language, text, *wanted), text)?;
     }
     Ok(())
 }
 
 #[test]
 fn some_joins_come_to_what_they_mean(rt: HostRuntime) -> Result<(), Fail> {
-    are_meant(rt.alloc(), &language(rt.alloc())?)
+    are_meant(rt.alloc(), language(rt.alloc()))
 }

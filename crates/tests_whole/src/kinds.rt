@@ -1,4 +1,5 @@
 //! The stores of a row's partials, of each kind, in any language.
+use crate::given::text_at;
 use liquid_core::PartialStore;
 use liquid_core::parser::{Language, ParseBlock, ParseFilter, ParseTag};
 use liquid_core::partials::{
@@ -8,7 +9,6 @@ use liquid_core::partials::{
 use serde_json::Value as Json;
 use std::alloc::{AllocError, Global};
 use std::rc::Rc;
-use std::test::Fail;
 use tests_lines::Row;
 
 /// A kind of store of the texts of a source.
@@ -19,7 +19,7 @@ pub(crate) trait Kind<S: PartialSource, F: ParseFilter, T: ParseTag<F>, B: Parse
     fn store(
         alloc: Global,
         source: S,
-        language: &Rc<Language<F, T, B>>,
+        language: Rc<Language<F, T, B>>,
     ) -> Result<Self::Store, AllocError>;
 }
 
@@ -37,9 +37,9 @@ where
     fn store(
         alloc: Global,
         source: S,
-        language: &Rc<Language<F, T, B>>,
+        language: Rc<Language<F, T, B>>,
     ) -> Result<OnDemandStore<S, F, T, B>, AllocError> {
-        PartialCompiler::compile(OnDemandCompiler::new(source), alloc, language.clone()?)
+        PartialCompiler::compile(OnDemandCompiler::new(source), alloc, language)
     }
 }
 
@@ -57,9 +57,9 @@ where
     fn store(
         alloc: Global,
         source: S,
-        language: &Rc<Language<F, T, B>>,
+        language: Rc<Language<F, T, B>>,
     ) -> Result<LazyStore<S, F, T, B>, AllocError> {
-        PartialCompiler::compile(LazyCompiler::new(source), alloc, language.clone()?)
+        PartialCompiler::compile(LazyCompiler::new(source), alloc, language)
     }
 }
 
@@ -77,42 +77,67 @@ where
     fn store(
         alloc: Global,
         source: S,
-        language: &Rc<Language<F, T, B>>,
+        language: Rc<Language<F, T, B>>,
     ) -> Result<EagerStore<S, F, T, B>, AllocError> {
-        PartialCompiler::compile(EagerCompiler::new(source), alloc, language.clone()?)
+        PartialCompiler::compile(EagerCompiler::new(source), alloc, language)
     }
 }
 
-fn add_partial(alloc: Global, source: &mut InMemorySource, partial: &Json) -> Result<(), Fail> {
-    match (
-        partial.get(0).and_then(Json::as_str),
-        partial.get(1).and_then(Json::as_str),
-    ) {
-        (Some(name), Some(text)) => {
-            source.add(
-                String::from_str(alloc, name)?,
-                String::from_str(alloc, text)?,
-            )?;
-            Ok(())
-        }
-        _ => Err(Fail::from("a partial is not a name and a text")),
+/// Returns a store of a kind of the texts of a source, or `None` if there is no source or if memory runs out.
+pub(crate) fn store_of<S, F, T, B, K>(
+    alloc: Global,
+    source: Option<S>,
+    language: &Rc<Language<F, T, B>>,
+) -> Option<K::Store>
+where
+    S: PartialSource + Drop,
+    F: ParseFilter + Drop,
+    T: ParseTag<F> + Drop,
+    B: ParseBlock<F> + Drop,
+    K: Kind<S, F, T, B>,
+{
+    match source.zip(language.clone().ok()) {
+        Some((source, language)) => K::store(alloc, source, language).ok(),
+        None => None,
+    }
+}
+
+/// Adds a text under a name, and returns `true` if it takes the place of another.
+pub(crate) fn add(
+    alloc: Global,
+    source: &mut InMemorySource,
+    name: &str,
+    text: &str,
+) -> Result<bool, AllocError> {
+    let name = String::from_str(alloc, name)?;
+    source.add(name, String::from_str(alloc, text)?)
+}
+
+/// Adds a partial, and returns `false` for one that is not a name and a text, or if memory runs out.
+fn is_added(alloc: Global, source: &mut InMemorySource, partial: &Json) -> bool {
+    match (text_at(partial, 0), text_at(partial, 1)) {
+        (Some(name), Some(text)) => add(alloc, source, name, text).is_ok(),
+        _ => false,
     }
 }
 
 /// Returns the source of a list of partials, each a name and a text, of which a later one takes the place of an earlier
-/// one of its name.
-pub(crate) fn source_of(alloc: Global, partials: &Vec<Json>) -> Result<InMemorySource, Fail> {
+/// one of its name, or `None` for other JSON or if memory runs out.
+pub(crate) fn source_of(alloc: Global, partials: &Json) -> Option<InMemorySource> {
+    let partials = partials.as_array()?;
     let mut source = InMemorySource::new(alloc);
     for partial in partials {
-        add_partial(alloc, &mut source, partial)?;
+        if !is_added(alloc, &mut source, partial) {
+            return None;
+        }
     }
-    Ok(source)
+    Some(source)
 }
 
 /// Returns the partials of a row.
-pub(crate) fn source(alloc: Global, row: &Row) -> Result<InMemorySource, Fail> {
+pub(crate) fn source(alloc: Global, row: &Row) -> Option<InMemorySource> {
     match row.member("partials") {
-        Some(Json::Array(partials)) => source_of(alloc, partials),
-        _ => Ok(InMemorySource::new(alloc)),
+        Some(partials) => source_of(alloc, partials),
+        None => Some(InMemorySource::new(alloc)),
     }
 }

@@ -3,15 +3,13 @@ use crate::pages::{Table, tables_hold};
 use bench::Filters;
 use liquid_core::parser::Language;
 use std::alloc::{AllocError, Global};
-use std::rc::Rc;
 use std::test::Fail;
 
 pub(crate) type LibraryLanguage = Language<Filters, liquid_tags::Tags, liquid_tags::Blocks>;
 
 /// Returns the library's language with the filters of the tests.
-pub(crate) fn library_language(alloc: Global) -> Result<Rc<LibraryLanguage>, AllocError> {
-    let filters = bench::languages::filters(alloc)?;
-    Ok(Rc::new(alloc, liquid_tags::language(alloc, filters)?)?)
+pub(crate) fn library_language(alloc: Global) -> Result<LibraryLanguage, AllocError> {
+    liquid_tags::language(alloc, bench::languages::filters(alloc)?)
 }
 
 /// Fails for the first row of tables in the language of the tag library that does not pass. With `each_store`, over each
@@ -21,5 +19,5 @@ pub(crate) fn library_tables_hold(
     tables: &[Table<'_>],
     each_store: bool,
 ) -> Result<(), Fail> {
-    tables_hold(alloc, tables, each_store, &library_language(alloc)?)
+    tables_hold(alloc, tables, each_store, library_language(alloc))
 }

@@ -1,14 +1,15 @@
 //! Limits on turns and on bytes: what is written with each number of either, from none to all that the page takes, over
 //! a runtime, in a sandbox and in isolation.
-use crate::pages::has_error;
-use crate::sink_given::{names, page, runtime};
+use crate::pages::{Page, has_error};
+use crate::sink_given::{names, page, page_of, runtime};
 use bench::languages::language;
 use liquid_core::parser::{Language, ParseBlock, ParseFilter, ParseTag};
 use liquid_core::runtime::{Runtime, Template};
 use liquid_core::{Discreet, Error, Filter, GatedSink, Limits, PartialStore, TextSink};
-use std::alloc::Global;
+use serde_json::Value as Json;
+use std::alloc::{AllocError, Global};
 use std::test::Fail;
-use tests_lines::{Line, rows_hold, same};
+use tests_lines::{Line, holds, rows_hold};
 
 /// More turns and bytes than any row takes.
 const MANY: u64 = 1000;
@@ -31,12 +32,6 @@ enum Surroundings {
     Sandbox,
     Isolation,
 }
-
-const ALL: [Surroundings; 3] = [
-    Surroundings::Runtime,
-    Surroundings::Sandbox,
-    Surroundings::Isolation,
-];
 
 /// A number of turns and of bytes.
 #[derive(Clone, Copy)]
@@ -65,7 +60,7 @@ impl Allowed {
 /// A text, and whether a page writes it as a whole.
 #[derive(Clone, Copy)]
 struct Wanted<'a> {
-    text: &'a str,
+    text: Option<&'a str>,
     whole: bool,
 }
 
@@ -75,25 +70,25 @@ fn render<X, T, B, R>(
     surroundings: Surroundings,
     page: &Template<X, T, B>,
     sink: &mut GatedSink<TextSink, Limits>,
-    mut around: R,
-) -> Result<Result<(), Error>, Fail>
+    around: &mut R,
+) -> Result<(), Error>
 where
     X: Filter,
     T: Discreet<()>,
     B: Discreet<()>,
-    R: Runtime<Register = ()> + Drop,
+    R: Runtime<Register = ()>,
     R::Store: PartialStore<X, T, B>,
 {
-    let names = names(alloc)?;
-    Ok(match surroundings {
-        Surroundings::Runtime => page.render_within(alloc, sink, &mut around),
-        Surroundings::Sandbox => {
-            page.render_sandboxed_within(alloc, sink, &mut around, names, None)
+    match (surroundings, names(alloc)) {
+        (Surroundings::Runtime, _) => page.render_within(alloc, sink, around),
+        (Surroundings::Sandbox, Some(names)) => {
+            page.render_sandboxed_within(alloc, sink, around, names, None)
         }
-        Surroundings::Isolation => {
-            page.render_isolated_within(alloc, sink, &mut around, names, None)
+        (Surroundings::Isolation, Some(names)) => {
+            page.render_isolated_within(alloc, sink, around, names, None)
         }
-    })
+        _ => Err(Error::Memory),
+    }
 }
 
 /// Returns `true` if a sink with that many turns and bytes took this text, and its page was stopped if more would
@@ -104,46 +99,54 @@ fn is_stopped(
     allowed: Allowed,
     answer: &Result<(), Error>,
     wanted: Wanted<'_>,
-) -> Result<bool, Fail> {
-    let has_error = has_error(alloc, answer, if wanted.whole { "" } else { STOPPED })?;
-    let is_passed = (sink.gate().turns_passed() <= allowed.turns)
-        & (sink.gate().bytes_passed() <= allowed.bytes);
-    let is_taken = sink.sink().as_bytes() == wanted.text.as_bytes();
-    Ok(is_passed & is_taken & has_error)
+) -> bool {
+    match wanted.text {
+        Some(text) => {
+            sink.gate().turns_passed() <= allowed.turns
+                && sink.gate().bytes_passed() <= allowed.bytes
+                && sink.sink().as_bytes() == text.as_bytes()
+                && has_error(alloc, answer, if wanted.whole { "" } else { STOPPED })
+        }
+        None => false,
+    }
 }
 
 /// Returns `true` if a page with that many turns and bytes writes this, and is stopped if more would follow.
-fn writes<F, T, B>(
+fn writes<X, T, B, R>(
     alloc: Global,
-    language: &Language<F, T, B>,
     surroundings: Surroundings,
-    template: &str,
+    page: &Template<X, T, B>,
+    around: Option<R>,
     allowed: Allowed,
     wanted: Wanted<'_>,
-) -> Result<bool, Fail>
+) -> bool
 where
-    F: ParseFilter + Drop,
-    T: ParseTag<F> + Drop,
-    B: ParseBlock<F> + Drop,
-    T::Node: Discreet<()>,
-    B::Node: Discreet<()>,
+    X: Filter,
+    T: Discreet<()>,
+    B: Discreet<()>,
+    R: Runtime<Register = ()> + Drop,
+    R::Store: PartialStore<X, T, B>,
 {
-    let around = runtime(alloc, language)?;
-    let page = page(alloc, language, template)?;
-    let gate = Limits::new(allowed.turns, allowed.bytes);
-    let mut sink = GatedSink::new(TextSink::new(alloc), gate);
-    let answer = render(alloc, surroundings, &page, &mut sink, around)?;
-    is_stopped(alloc, &sink, allowed, &answer, wanted)
+    match around {
+        Some(mut around) => {
+            let gate = Limits::new(allowed.turns, allowed.bytes);
+            let mut sink = GatedSink::new(TextSink::new(alloc), gate);
+            let answer = render(alloc, surroundings, page, &mut sink, &mut around);
+            is_stopped(alloc, &sink, allowed, &answer, wanted)
+        }
+        None => false,
+    }
 }
 
-/// Returns `true` if the row's texts are written with none, one and so on, of turns or of bytes.
+/// Returns `true` if these texts are written with none, one and so on, of turns or of bytes.
 fn each_is_written<F, T, B>(
     alloc: Global,
     language: &Language<F, T, B>,
     surroundings: Surroundings,
-    row: &Line,
+    page: &Page<F, T, B>,
+    texts: &Vec<Json>,
     of_turns: bool,
-) -> Result<bool, Fail>
+) -> bool
 where
     F: ParseFilter + Drop,
     T: ParseTag<F> + Drop,
@@ -151,27 +154,28 @@ where
     T::Node: Discreet<()>,
     B::Node: Discreet<()>,
 {
-    let texts = row.list(if of_turns { 1 } else { 2 })?;
-    let template = row.text(0)?;
     for (number, text) in texts.iter().enumerate() {
-        let allowed = Allowed::of(u64::try_from(number)?, of_turns);
+        let allowed = Allowed::of(number as u64, of_turns);
         let wanted = Wanted {
-            text: text.as_str().unwrap_or(""),
+            text: text.as_str(),
             whole: number.saturating_add(1) == texts.len(),
         };
-        if !writes(alloc, language, surroundings, template, allowed, wanted)? {
-            return Ok(false);
+        let around = runtime(alloc, language);
+        if !writes(alloc, surroundings, page, around, allowed, wanted) {
+            return false;
         }
     }
-    Ok(true)
+    true
 }
 
-/// Returns `true` if a row's texts are written in each of the surroundings, with each number of turns and of bytes.
-fn is_limited<F, T, B>(
+/// Returns `true` if a row's texts are written in some surroundings, with each number of turns and of bytes.
+fn is_written_in<F, T, B>(
     alloc: Global,
     language: &Language<F, T, B>,
+    surroundings: Surroundings,
+    page: &Page<F, T, B>,
     row: &Line,
-) -> Result<bool, Fail>
+) -> bool
 where
     F: ParseFilter + Drop,
     T: ParseTag<F> + Drop,
@@ -179,18 +183,56 @@ where
     T::Node: Discreet<()>,
     B::Node: Discreet<()>,
 {
-    for surroundings in ALL {
-        let of_turns = each_is_written(alloc, language, surroundings, row, true)?;
-        let of_bytes = each_is_written(alloc, language, surroundings, row, false)?;
-        if !(of_turns & of_bytes) {
-            return Ok(false);
+    match row.list(1).zip(row.list(2)) {
+        Some((turns, bytes)) => {
+            each_is_written(alloc, language, surroundings, page, turns, true)
+                && each_is_written(alloc, language, surroundings, page, bytes, false)
         }
+        None => false,
     }
-    Ok(true)
 }
 
-fn row_holds(alloc: Global, row: &Line) -> Result<bool, Fail> {
-    is_limited(alloc, &language(alloc)?, row)
+/// Returns `true` if a row's texts are written in each of the surroundings.
+fn is_limited_in<F, T, B>(alloc: Global, language: &Language<F, T, B>, row: &Line) -> bool
+where
+    F: ParseFilter + Drop,
+    T: ParseTag<F> + Drop,
+    B: ParseBlock<F> + Drop,
+    T::Node: Discreet<()>,
+    B::Node: Discreet<()>,
+{
+    match page_of(alloc, language, row) {
+        Some(page) => {
+            is_written_in(alloc, language, Surroundings::Runtime, &page, row)
+                && is_written_in(alloc, language, Surroundings::Sandbox, &page, row)
+                && is_written_in(alloc, language, Surroundings::Isolation, &page, row)
+        }
+        None => false,
+    }
+}
+
+/// Returns `true` if a row's texts are written in a language.
+fn is_limited<F, T, B>(
+    alloc: Global,
+    language: Result<Language<F, T, B>, AllocError>,
+    row: &Line,
+) -> bool
+where
+    F: ParseFilter + Drop,
+    T: ParseTag<F> + Drop,
+    B: ParseBlock<F> + Drop,
+    T::Node: Discreet<()>,
+    B::Node: Discreet<()>,
+{
+    match language {
+        Ok(language) => is_limited_in(alloc, &language, row),
+        Err(_) => false,
+    }
+}
+
+/// Returns `true` if a row's texts are written in the language of the test plug-ins.
+fn row_holds(alloc: Global, row: &Line) -> bool {
+    is_limited(alloc, language(alloc), row)
 }
 
 #[test]
@@ -198,8 +240,27 @@ fn limits_stop_a_page_at_the_turn_or_the_piece(rt: HostRuntime) -> Result<(), Fa
     rows_hold(rt.alloc(), ROWS, row_holds)
 }
 
-/// Renders the text `a` in a language with one turn and one byte, and returns the text of the sink.
-fn sunk<F, T, B>(alloc: Global, language: &Language<F, T, B>) -> Result<String, Fail>
+/// Returns `true` if a sink with one turn and one byte takes the text `a` of a page, and is given back.
+fn is_given_back<X, T, B, R>(alloc: Global, page: &Template<X, T, B>, around: Option<R>) -> bool
+where
+    X: Filter,
+    T: Discreet<()>,
+    B: Discreet<()>,
+    R: Runtime<Register = ()> + Drop,
+    R::Store: PartialStore<X, T, B>,
+{
+    match around {
+        Some(mut around) => {
+            let mut sink = GatedSink::new(TextSink::new(alloc), Limits::new(1, 1));
+            let answer = render(alloc, Surroundings::Runtime, page, &mut sink, &mut around);
+            answer.is_ok() && sink.into_sink().as_bytes() == b"a".as_slice()
+        }
+        None => false,
+    }
+}
+
+/// Returns `true` if the sink of the text `a` in a language is given back.
+fn gives_back<F, T, B>(alloc: Global, language: Result<Language<F, T, B>, AllocError>) -> bool
 where
     F: ParseFilter + Drop,
     T: ParseTag<F> + Drop,
@@ -207,15 +268,19 @@ where
     T::Node: Discreet<()>,
     B::Node: Discreet<()>,
 {
-    let around = runtime(alloc, language)?;
-    let page = page(alloc, language, "a")?;
-    let mut sink = GatedSink::new(TextSink::new(alloc), Limits::new(1, 1));
-    render(alloc, Surroundings::Runtime, &page, &mut sink, around)??;
-    Ok(sink.into_sink().into_string()?)
+    match language {
+        Ok(language) => match page(alloc, &language, "a") {
+            Some(page) => is_given_back(alloc, &page, runtime(alloc, &language)),
+            None => false,
+        },
+        Err(_) => false,
+    }
 }
 
 #[test]
 fn a_gated_sink_gives_its_sink_back(rt: HostRuntime) -> Result<(), Fail> {
-    let alloc = rt.alloc();
-    same(sunk(alloc, &language(alloc)?)?.as_str(), "a")
+    holds(
+        gives_back(rt.alloc(), language(rt.alloc())),
+        "a gated sink gives its sink back",
+    )
 }

@@ -4,6 +4,7 @@ ghost use Rattle.bench.specs.meaning.BlockPlugins.{names_told};
 ghost use Rattle.bench.specs.declared.block_plugins.Blocks.TheVariants.{Raw};
 ghost use Rattle.tests_whole.specs.steps.Nested.{nested_block};
 
+use crate::languages::registry_of;
 use bench::blocks::BlockNode;
 use bench::languages::language;
 use bench::{Blocks, Filters, Tags};
@@ -87,9 +88,8 @@ impl<F: ParseFilter> ParseBlock<F> for Nested {
 pub(crate) fn nested_language(
     alloc: Global,
 ) -> Result<Language<Filters, Tags, Nested>, AllocError> {
+    let blocks = registry_of(alloc, &[("raw", Nested)])?;
     let plain = language(alloc)?;
-    let mut blocks = PluginRegistry::new(alloc);
-    blocks.register("raw", Nested)?;
     Ok(Language {
         filters: plain.filters,
         tags: plain.tags,

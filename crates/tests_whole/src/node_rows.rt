@@ -1,24 +1,23 @@
 //! Templates of nodes made by hand, with their results.
-use crate::given::no_names;
-use crate::nodes::{HostileElement, Page, Same, page, page_in, text, written};
-use crate::pages::{Over, over, without_partials};
-use crate::renderings::{RENDERINGS, Rendering, is_rendered, rendered};
+use crate::given::{count_at, no_names};
+use crate::nodes::{OfStep, Page, Same, adds, page, page_in, written};
+use crate::pages::{Over, has_error, over};
+use crate::renderings::{Rendering, is_rendered, writes};
 use bench::blocks::BlockNode;
 use bench::dripping::Dripping;
 use bench::hostile::{HostileBlockNode, HostileTagNode};
 use bench::partial::OnePartial;
-use bench::tags::TagNode;
+use bench::tags::{LeakyTagNode, TagNode};
 use liquid_core::model::{Object, Value};
 use liquid_core::parser::Node;
 use liquid_core::runtime::{
     BuiltRuntime, Renderable, Runtime, RuntimeBuilder, RuntimeCore, SandboxedStackFrame, Template,
 };
-use liquid_core::{Error, Filter, PartialStore};
-use serde_json::Value as Json;
-use std::alloc::{AllocError, Global};
+use liquid_core::{Filter, PartialStore};
+use std::alloc::Global;
 use std::rc::Rc;
 use std::test::Fail;
-use tests_lines::{Line, Row, holds, same};
+use tests_lines::{Line, Row, holds};
 
 /// Templates, each a list of steps.
 const ROWS: &str = r#"{"template": "", "steps": [["begin"], ["end", "box"]], "written": "[]"}
@@ -41,78 +40,94 @@ const PARTIAL_ROWS: &str =
 {"template": "", "partial": [["text", "x"], ["inc", "p"]], "steps": [["inc", "q"]], "depth": 0, "written": "", "error": "liquid: Partials nest too deep\n"}
 {"template": "", "partial": [["shown", "x"], ["set", "x", 2]], "steps": [["set", "x", 1], ["inc", "p"], ["shown", "x"]], "depth": 3, "written": "12"}"#;
 
-/// Returns the steps of a row's member.
-fn steps<'r>(row: &'r Row, member: &str) -> Result<&'r Vec<Json>, Fail> {
-    match row.member(member) {
-        Some(Json::Array(steps)) => Ok(steps),
-        _ => Err(Fail::from("a row has no steps")),
-    }
+/// Returns the template of a row's steps.
+fn page_of<T: OfStep + Drop, B: OfStep + Drop>(
+    alloc: Global,
+    row: &Row,
+) -> Option<Template<Same, T, B>> {
+    page(alloc, row.member("steps")?)
+}
+
+/// Returns the partial of a row, an empty one if it has none.
+fn partial_of<T: OfStep + Drop, B: OfStep + Drop>(
+    alloc: Global,
+    row: &Row,
+) -> Option<Rc<Template<Same, T, B>>> {
+    let partial = match row.member("partial") {
+        Some(steps) => page(alloc, steps)?,
+        None => Template::new(Vec::new(alloc)),
+    };
+    Rc::new(alloc, partial).ok()
 }
 
 /// Returns a runtime of a row with the partial `p`.
 fn with_partial<X: Drop, T: Drop, B: Drop>(
     alloc: Global,
     row: &Row,
-    partial: Template<X, T, B>,
-) -> Result<Over<OnePartial<X, T, B>>, Fail> {
-    let template = Rc::new(alloc, partial)?;
-    let name = text(alloc, "p")?;
-    over(alloc, row, OnePartial { name, template })
-}
-
-/// Returns `true` if a row's template passes with a call that renders it, over its partial if it has one.
-fn holds_by(alloc: Global, row: &Row, template: &Page, call: Rendering) -> Result<bool, Fail> {
-    if row.member("partial").is_none() {
-        let runtime: Over<()> = without_partials(alloc, row)?;
-        is_rendered(alloc, row, template, call, runtime)
-    } else {
-        let partial = page(alloc, steps(row, "partial")?)?;
-        is_rendered(
-            alloc,
-            row,
-            template,
-            call,
-            with_partial(alloc, row, partial)?,
-        )
+    partial: &Rc<Template<X, T, B>>,
+) -> Option<Over<OnePartial<X, T, B>>> {
+    match String::from_str(alloc, "p").ok().zip(partial.clone().ok()) {
+        Some((name, template)) => over(alloc, row, Some(OnePartial { name, template })),
+        None => None,
     }
 }
 
-/// Returns `true` if a row's template passes with each call that renders it.
-fn holds_by_each(alloc: Global, row: &Row, template: &Page) -> Result<bool, Fail> {
-    for call in RENDERINGS {
-        if !holds_by(alloc, row, template, call)? {
-            return Ok(false);
-        }
+/// Returns `true` if a row's template passes with a call that renders it, over a partial.
+fn holds_by<X, T, B>(
+    alloc: Global,
+    row: &Row,
+    page: &Template<X, T, B>,
+    partial: &Rc<Template<X, T, B>>,
+    call: Rendering,
+) -> bool
+where
+    X: Filter,
+    T: Renderable<()>,
+    B: Renderable<()>,
+{
+    match with_partial(alloc, row, partial) {
+        Some(runtime) => is_rendered(alloc, row, page, call, runtime),
+        None => false,
     }
-    Ok(true)
 }
 
 /// Returns `true` if a row passes with each call that renders a template.
-fn row_holds(alloc: Global, row: &Row) -> Result<bool, Fail> {
-    let template = page(alloc, steps(row, "steps")?)?;
-    let holds = holds_by_each(alloc, row, &template);
-    drop(template);
-    holds
-}
-
-/// Returns `true` if a row passes with strict names and with lenient ones.
-fn row_holds_in_both(alloc: Global, row: Row) -> Result<bool, Fail> {
-    let is_strict = row_holds(alloc, &row)?;
-    let row = row.leniently();
-    let is_lenient = row_holds(alloc, &row);
-    drop(row);
-    Ok(is_strict & is_lenient?)
+fn row_holds<T, B>(alloc: Global, row: &Row) -> bool
+where
+    T: OfStep + Renderable<()>,
+    B: OfStep + Renderable<()>,
+{
+    match page_of::<T, B>(alloc, row).zip(partial_of(alloc, row)) {
+        Some((page, partial)) => {
+            holds_by(alloc, row, &page, &partial, Rendering::To)
+                && holds_by(alloc, row, &page, &partial, Rendering::Whole)
+                && holds_by(alloc, row, &page, &partial, Rendering::Chained)
+                && holds_by(alloc, row, &page, &partial, Rendering::Flat)
+        }
+        None => false,
+    }
 }
 
 /// Returns `true` if the row of a line passes with strict names and with lenient ones.
-fn line_holds(alloc: Global, line: &str) -> Result<bool, Fail> {
-    row_holds_in_both(alloc, Row::of(alloc, line)?)
+fn line_holds<T, B>(alloc: Global, line: &str) -> bool
+where
+    T: OfStep + Renderable<()>,
+    B: OfStep + Renderable<()>,
+{
+    match Row::of(alloc, line) {
+        Some(row) => {
+            row_holds::<T, B>(alloc, &row) && row_holds::<T, B>(alloc, &row.leniently())
+        }
+        None => false,
+    }
 }
 
 /// Fails for the first row of a table that does not pass with strict names and with lenient ones.
 fn all_hold(alloc: Global, rows: &str) -> Result<(), Fail> {
     for line in rows.lines() {
-        holds(line_holds(alloc, line)?, line)?;
+        if !line_holds::<LeakyTagNode, BlockNode>(alloc, line) {
+            return Err(Fail::new(format_args!("this row doesn't hold: {line}")));
+        }
     }
     Ok(())
 }
@@ -127,78 +142,73 @@ fn partials_are_rendered_without_a_frame(rt: HostRuntime) -> Result<(), Fail> {
     all_hold(rt.alloc(), PARTIAL_ROWS)
 }
 
-/// Fails for steps that write something else over a runtime, with the text of their error after it.
-fn writes<R: Runtime<Register = (), Store = ()>>(
+/// Returns `true` if steps write a text over a runtime, with the text of their error after it.
+fn steps_write<R: Runtime<Register = (), Store = ()>>(
     alloc: Global,
     steps: &str,
     runtime: &mut R,
     wanted: &str,
-) -> Result<(), Fail> {
-    let template = page_in(alloc, steps)?;
-    let all = rendered(alloc, &template, runtime);
-    drop(template);
-    same(all?.as_str(), wanted)
+) -> bool {
+    match page_in(alloc, steps) {
+        Some(template) => writes(alloc, &template, runtime, wanted),
+        None => false,
+    }
 }
 
-/// Does the same over a runtime that is built.
-fn writes_over(
-    alloc: Global,
-    steps: &str,
-    mut runtime: BuiltRuntime<(), ()>,
-    wanted: &str,
-) -> Result<(), Fail> {
-    let answer = writes(alloc, steps, &mut runtime, wanted);
-    drop(runtime);
-    answer
+/// Returns `true` if a step that renders the partial `p` has this error over a runtime.
+fn finds_none(alloc: Global, mut runtime: BuiltRuntime<(), ()>, error: &str) -> bool {
+    steps_write(alloc, r#"[["inc", "p"]]"#, &mut runtime, error)
 }
 
 #[test]
 fn no_partial_is_found_where_there_are_none(rt: HostRuntime) -> Result<(), Fail> {
     let alloc = rt.alloc();
-    let include = r#"[["inc", "p"]]"#;
-    writes_over(
+    let is_missing = finds_none(
         alloc,
-        include,
         no_names(alloc),
         "liquid: Partial does not exist\n  with:\n    name=p\n",
-    )?;
-    writes_over(
+    );
+    let is_unknown = finds_none(
         alloc,
-        include,
         RuntimeBuilder::new(alloc).set_partials(()).build(),
         "liquid: Unknown partial-template\n  with:\n    requested partial=p\n    available partials=\n",
-    )
+    );
+    holds(is_missing, "there is no store")?;
+    holds(is_unknown, "the store is empty")
 }
 
-/// Assigns `s`.
-fn assign<R: Runtime>(alloc: Global, runtime: &mut R) -> Result<(), Fail> {
-    runtime.set_global(text(alloc, "s")?, Value::scalar(text(alloc, "S")?))?;
-    Ok(())
+/// Assigns `S` to `s`, and returns `false` if memory runs out or there is no global frame.
+fn assigns<R: Runtime>(alloc: Global, runtime: &mut R) -> bool {
+    match String::from_str(alloc, "s")
+        .ok()
+        .zip(String::from_str(alloc, "S").ok())
+    {
+        Some((name, text)) => runtime.set_global(name, Value::scalar(text)).is_ok(),
+        None => false,
+    }
 }
 
-/// Fails for a sandbox in which `leak` writes something else than `wanted`. Outside of it `s` is assigned if `given` is
-/// true, and nothing otherwise.
-fn leaks<R>(alloc: Global, mut outside: R, given: bool, wanted: &str) -> Result<(), Fail>
+/// Returns `true` if `leak` writes a text in a sandbox. Outside of it `s` is assigned if `given` is true, and nothing
+/// otherwise.
+fn leaks<R>(alloc: Global, mut outside: R, given: bool, wanted: &str) -> bool
 where
     R: Runtime<Register = (), Store = ()> + Drop,
 {
-    if given {
-        assign(alloc, &mut outside)?;
+    if given && !assigns(alloc, &mut outside) {
+        return false;
     }
     let mut sandbox = SandboxedStackFrame::new(outside, Object::new(alloc));
-    let answer = writes(alloc, r#"[["leak", "s", 1]]"#, &mut sandbox, wanted);
-    drop(sandbox);
-    answer
+    steps_write(alloc, r#"[["leak", "s", 1]]"#, &mut sandbox, wanted)
 }
 
-#[test]
-fn leak_writes_what_a_sandbox_hides(rt: HostRuntime) -> Result<(), Fail> {
-    let alloc = rt.alloc();
-    for (given, wanted) in [(true, "S"), (false, "")] {
-        leaks(alloc, no_names(alloc), given, wanted)?;
-    }
-    let mut core: RuntimeCore<(), ()> = RuntimeCore::new();
-    writes(
+/// Does the same over a runtime without names.
+fn leaks_over_no_names(alloc: Global, given: bool, wanted: &str) -> bool {
+    leaks(alloc, no_names(alloc), given, wanted)
+}
+
+/// Returns `true` if an assignment is refused by a runtime without frames.
+fn is_refused_by_core(alloc: Global, mut core: RuntimeCore<(), ()>) -> bool {
+    steps_write(
         alloc,
         r#"[["set", "s", 1]]"#,
         &mut core,
@@ -206,29 +216,31 @@ fn leak_writes_what_a_sandbox_hides(rt: HostRuntime) -> Result<(), Fail> {
     )
 }
 
+#[test]
+fn leak_writes_what_a_sandbox_hides(rt: HostRuntime) -> Result<(), Fail> {
+    let alloc = rt.alloc();
+    holds(
+        leaks_over_no_names(alloc, true, "S") && leaks_over_no_names(alloc, false, ""),
+        "what a sandbox hides is written",
+    )?;
+    holds(
+        is_refused_by_core(alloc, RuntimeCore::new()),
+        "there is no global frame",
+    )
+}
+
 /// A template, how many puts its sink takes, and what is written.
 const SINK_ROWS: &str = r#"[[["begin"], ["text", "ab"], ["end", "box"]], 2, "[a"]
 [[["set", "g", 1], ["text", "ab"], ["set", "g", 2]], 1, "a"]"#;
 
-/// Fails for a call without the error that its sink failed.
-fn breaks_off(alloc: Global, answer: Result<(), Error>) -> Result<(), Fail> {
-    match answer {
-        Ok(()) => Err(Fail::from("the sink did not fail")),
-        Err(error) => same(
-            error.to_string(alloc)?.as_str(),
-            "liquid: Failed to render\n",
-        ),
-    }
-}
-
-/// Fails for a sink that takes something else of a template, or whose call does not have its error.
+/// Returns `true` if a sink takes just that of a template, and its call has the error that the sink failed.
 fn drips<X, T, B, R>(
     alloc: Global,
-    template: &Template<X, T, B>,
+    template: Option<Template<X, T, B>>,
     mut sink: Dripping,
     runtime: &mut R,
     wanted: &str,
-) -> Result<(), Fail>
+) -> bool
 where
     X: Filter,
     R: Runtime,
@@ -236,87 +248,129 @@ where
     B: Renderable<R::Register>,
     R::Store: PartialStore<X, T, B>,
 {
-    let answer = template.render_to(alloc, &mut sink, runtime);
-    breaks_off(alloc, answer)?;
-    holds(sink.as_bytes() == wanted.as_bytes(), "a beginning")
+    match template {
+        Some(template) => {
+            let answer = template.render_to(alloc, &mut sink, runtime);
+            sink.as_bytes() == wanted.as_bytes()
+                && has_error(alloc, &answer, "liquid: Failed to render\n")
+        }
+        None => false,
+    }
 }
 
-/// Fails for a row whose sink takes something else, or whose call has no error.
-fn row_drips<R>(alloc: Global, row: &Line, runtime: &mut R) -> Result<(), Fail>
+/// Returns the sink of a row.
+fn sink_of(alloc: Global, row: &Line) -> Option<Dripping> {
+    match count_at(row, 1) {
+        Some(puts) => Some(Dripping::new(alloc, puts)),
+        None => None,
+    }
+}
+
+/// Returns the template of a row.
+fn template_of(alloc: Global, row: &Line) -> Option<Page> {
+    match row.member(0) {
+        Some(steps) => page(alloc, steps),
+        None => None,
+    }
+}
+
+/// Returns `true` if the sink of a row takes just what the row says, and its call has an error.
+fn row_drips<R>(alloc: Global, row: &Line, runtime: &mut R) -> bool
 where
     R: Runtime<Register = (), Store = ()>,
 {
-    let (puts, wanted) = (u64::try_from(row.number(1)?)?, row.text(2)?);
-    let template = page(alloc, row.list(0)?)?;
-    let answer = drips(
-        alloc,
-        &template,
-        Dripping::new(alloc, puts),
-        runtime,
-        wanted,
-    );
-    drop(template);
-    answer
+    match sink_of(alloc, row) {
+        Some(sink) => match row.text(2) {
+            Some(wanted) => drips(alloc, template_of(alloc, row), sink, runtime, wanted),
+            None => false,
+        },
+        None => false,
+    }
 }
 
-/// Fails for the first row that does not pass, and if a runtime is not left as their templates left it.
-fn rows_drip<R>(alloc: Global, runtime: &mut R) -> Result<(), Fail>
+/// Returns `true` if each row passes, and leaves a runtime as their templates left it.
+fn rows_drip<R>(alloc: Global, mut runtime: R) -> bool
 where
-    R: Runtime<Register = (), Store = ()>,
+    R: Runtime<Register = (), Store = ()> + Drop,
 {
     for line in SINK_ROWS.lines() {
-        row_drips(alloc, &Line::of(alloc, line)?, runtime)?;
+        let is_so = match Line::of(alloc, line) {
+            Some(row) => row_drips(alloc, &row, &mut runtime),
+            None => false,
+        };
+        if !is_so {
+            return false;
+        }
     }
-    writes(alloc, r#"[["shown", "g"]]"#, runtime, "1")
+    steps_write(alloc, r#"[["shown", "g"]]"#, &mut runtime, "1")
 }
 
 #[test]
 fn a_sink_that_fails_leaves_what_was_set_before(rt: HostRuntime) -> Result<(), Fail> {
-    let mut runtime = no_names(rt.alloc());
-    let answer = rows_drip(rt.alloc(), &mut runtime);
-    drop(runtime);
-    answer
+    holds(
+        rows_drip(rt.alloc(), no_names(rt.alloc())),
+        "a sink takes a beginning, and the name is as it was set before",
+    )
 }
 
 /// Returns the template of a node, and `.` after it.
 fn before_a_point<T: Drop, B: Drop>(
     alloc: Global,
-    node: Node<Same, T, B>,
-) -> Result<Template<Same, T, B>, AllocError> {
+    node: Option<Node<Same, T, B>>,
+) -> Option<Template<Same, T, B>> {
     let mut nodes = Vec::new(alloc);
-    nodes.push(node)?;
-    nodes.push(written(alloc, ".")?)?;
-    Ok(Template::new(nodes))
+    if adds(&mut nodes, node) && adds(&mut nodes, written(alloc, ".")) {
+        Some(Template::new(nodes))
+    } else {
+        None
+    }
 }
 
 /// Returns a block whose one part is a text.
-fn around<T: Drop, B: Drop>(
-    alloc: Global,
-    block: B,
-    piece: &str,
-) -> Result<Node<Same, T, B>, AllocError> {
+fn around<T: Drop, B: Drop>(alloc: Global, block: B, piece: &str) -> Option<Node<Same, T, B>> {
     let mut part = Vec::new(alloc);
-    part.push(written(alloc, piece)?)?;
     let mut parts = Vec::new(alloc);
-    parts.push(part)?;
-    Ok(Node::Block(block, parts))
+    if adds(&mut part, written(alloc, piece)) && adds(&mut parts, Some(part)) {
+        Some(Node::Block(block, parts))
+    } else {
+        None
+    }
 }
 
-/// Fails for a node that writes something else, with `.` after it.
-fn ends(alloc: Global, node: HostileElement, wanted: &str) -> Result<(), Fail> {
-    let template = before_a_point(alloc, node)?;
-    let all = rendered(alloc, &template, &mut no_names(alloc));
-    drop(template);
-    same(all?.as_str(), wanted)
+/// Returns `true` if a node writes a text, with `.` after it.
+fn ends<T, B>(alloc: Global, node: Option<Node<Same, T, B>>, wanted: &str) -> bool
+where
+    T: Renderable<()>,
+    B: Renderable<()>,
+{
+    match before_a_point(alloc, node) {
+        Some(template) => writes(alloc, &template, &mut no_names(alloc), wanted),
+        None => false,
+    }
+}
+
+/// Returns `true` if a malicious tag, or one of the plain language, writes a text, with `.` after it.
+fn tag_ends(alloc: Global, tag: HostileTagNode, wanted: &str) -> bool {
+    ends::<HostileTagNode, HostileBlockNode>(alloc, Some(Node::Tag(tag)), wanted)
+}
+
+/// Returns `true` if such a block around a text writes a text, with `.` after it.
+fn block_ends(alloc: Global, block: HostileBlockNode, piece: &str, wanted: &str) -> bool {
+    ends::<HostileTagNode, HostileBlockNode>(alloc, around(alloc, block, piece), wanted)
 }
 
 #[test]
 fn bad_will_is_rendered_to_its_end(rt: HostRuntime) -> Result<(), Fail> {
     let alloc = rt.alloc();
-    let boxed = HostileBlockNode::Plain(BlockNode::Box);
-    ends(alloc, Node::Tag(HostileTagNode::Spin), "sss.")?;
-    ends(alloc, Node::Tag(HostileTagNode::Mute), ".")?;
-    ends(alloc, Node::Tag(HostileTagNode::Plain(TagNode::Brk)), "")?;
-    ends(alloc, around(alloc, HostileBlockNode::Far, "a")?, ".")?;
-    ends(alloc, around(alloc, boxed, "x")?, "[x].")
+    holds(
+        tag_ends(alloc, HostileTagNode::Spin, "sss.")
+            && tag_ends(alloc, HostileTagNode::Mute, ".")
+            && tag_ends(alloc, HostileTagNode::Plain(TagNode::Brk), ""),
+        "tags end",
+    )?;
+    holds(
+        block_ends(alloc, HostileBlockNode::Far, "a", ".")
+            && block_ends(alloc, HostileBlockNode::Plain(BlockNode::Box), "x", "[x]."),
+        "blocks end",
+    )
 }

@@ -1,6 +1,6 @@
 //! Nodes made by hand, from a list of steps.
+use crate::given::text_at;
 use bench::blocks::BlockNode;
-use bench::hostile::{HostileBlockNode, HostileTagNode};
 use bench::tags::{LeakyTagNode, TagNode};
 use liquid_core::Error;
 use liquid_core::runtime::Template;
@@ -8,9 +8,8 @@ use liquid_plugins::{Expression, Filter, FilterChain, Meant, Node, Variable};
 use liquid_runtime::Runtime;
 use liquid_value::{Value, ValueCow};
 use serde_json::Value as Json;
-use std::alloc::{AllocError, Global};
+use std::alloc::Global;
 use std::mem;
-use std::test::Fail;
 
 /// A filter that gives its input back.
 #[derive(Drop)]
@@ -41,99 +40,118 @@ impl Filter for Same {
     }
 }
 
-type Element = Node<Same, LeakyTagNode, BlockNode>;
-
 pub(crate) type Page = Template<Same, LeakyTagNode, BlockNode>;
 
-pub(crate) type HostileElement = Node<Same, HostileTagNode, HostileBlockNode>;
-
-pub(crate) fn text(alloc: Global, text: &str) -> Result<String, AllocError> {
-    String::from_str(alloc, text)
-}
-
-pub(crate) fn written<T, B>(alloc: Global, piece: &str) -> Result<Node<Same, T, B>, AllocError> {
-    Ok(Node::Text(text(alloc, piece)?))
-}
-
-fn variable(alloc: Global, name: &str) -> Result<Expression, AllocError> {
-    Ok(Expression::Variable(Variable::with_literal(alloc, text(alloc, name)?)))
-}
-
-/// Returns a number, as a node holds a value.
-fn literal(alloc: Global, number: i64) -> Result<Box<Expression>, AllocError> {
-    Ok(Box::new(alloc, Expression::with_literal(number))?)
-}
-
-fn word(step: &Json, place: usize) -> Result<&str, Fail> {
-    match step.get(place) {
-        Some(Json::String(word)) => Ok(word.as_str()),
-        _ => Err(Fail::from("a step has no word at a place")),
+/// Returns a node of a text, or `None` if memory runs out.
+pub(crate) fn written<T, B>(alloc: Global, piece: &str) -> Option<Node<Same, T, B>> {
+    match String::from_str(alloc, piece) {
+        Ok(piece) => Some(Node::Text(piece)),
+        Err(_) => None,
     }
 }
 
-fn number(step: &Json, place: usize) -> Result<i64, Fail> {
-    match step.get(place) {
-        Some(member) => match member.as_i64() {
-            Some(number) => Ok(number),
-            None => Err(Fail::from("a step has no number at a place")),
-        },
-        None => Err(Fail::from("a step is too short")),
+/// Returns the text at a place of a step.
+fn text(alloc: Global, step: &Json, place: usize) -> Option<String> {
+    match text_at(step, place) {
+        Some(text) => String::from_str(alloc, text).ok(),
+        None => None,
     }
 }
 
-/// Returns the tag of a step, if it is one.
-fn tag(alloc: Global, step: &Json) -> Result<Option<TagNode>, Fail> {
-    match word(step, 0)? {
+/// Returns the variable of the name at a place of a step.
+fn variable(alloc: Global, step: &Json, place: usize) -> Option<Expression> {
+    match text(alloc, step, place) {
+        Some(name) => Some(Expression::Variable(Variable::with_literal(alloc, name))),
+        None => None,
+    }
+}
+
+/// Returns the number at a place of a step.
+fn literal(step: &Json, place: usize) -> Option<Expression> {
+    match step.get(place) {
+        Some(number) => Some(Expression::with_literal(number.as_i64()?)),
+        None => None,
+    }
+}
+
+/// Returns an expression as a node holds it.
+fn held(alloc: Global, expression: Option<Expression>) -> Option<Box<Expression>> {
+    match expression {
+        Some(expression) => Box::new(alloc, expression).ok(),
+        None => None,
+    }
+}
+
+/// What a step makes: a tag, or the block that it ends.
+pub(crate) trait OfStep: Sized {
+    /// Returns what a step makes, or `None` for a step that makes something else, or if memory runs out.
+    fn of_step(alloc: Global, step: &Json) -> Option<Self>;
+}
+
+/// Returns the name at the first place after a step's word, and the number after it.
+fn name_and_number(alloc: Global, step: &Json) -> Option<(String, Box<Expression>)> {
+    text(alloc, step, 1).zip(held(alloc, literal(step, 2)))
+}
+
+/// Returns the tag of a step that writes nothing of what a sandbox hides.
+fn tag(alloc: Global, step: &Json) -> Option<TagNode> {
+    match text_at(step, 0)? {
         "set" => {
-            let name = text(alloc, word(step, 1)?)?;
-            Ok(Some(TagNode::Set(name, literal(alloc, number(step, 2)?)?)))
+            let (name, number) = name_and_number(alloc, step)?;
+            Some(TagNode::Set(name, number))
         }
-        "inc" => Ok(Some(TagNode::Inc(text(alloc, word(step, 1)?)?))),
-        "brk" => Ok(Some(TagNode::Brk)),
-        _ => Ok(None),
+        "inc" => Some(TagNode::Inc(text(alloc, step, 1)?)),
+        "brk" => Some(TagNode::Brk),
+        _ => None,
     }
 }
 
-/// Returns the tag that writes what a sandbox hides.
-fn leak(alloc: Global, step: &Json) -> Result<LeakyTagNode, Fail> {
-    let name = text(alloc, word(step, 1)?)?;
-    Ok(LeakyTagNode::Leak(name, literal(alloc, number(step, 2)?)?))
+impl OfStep for LeakyTagNode {
+    fn of_step(alloc: Global, step: &Json) -> Option<LeakyTagNode> {
+        if text_at(step, 0) == Some("leak") {
+            let (name, number) = name_and_number(alloc, step)?;
+            Some(LeakyTagNode::Leak(name, number))
+        } else {
+            Some(LeakyTagNode::Plain(tag(alloc, step)?))
+        }
+    }
 }
 
-/// Returns a node without parts, or none for a step that has to do with parts.
-fn leaf(alloc: Global, step: &Json) -> Result<Option<Element>, Fail> {
-    match word(step, 0)? {
-        "text" => Ok(Some(written(alloc, word(step, 1)?)?)),
+/// Returns what a `with` binds: the value of the name in its step, or the number in it.
+fn bound(alloc: Global, step: &Json) -> Option<Box<Expression>> {
+    if text_at(step, 3).is_some() {
+        held(alloc, variable(alloc, step, 3))
+    } else {
+        held(alloc, literal(step, 3))
+    }
+}
+
+impl OfStep for BlockNode {
+    fn of_step(alloc: Global, step: &Json) -> Option<BlockNode> {
+        match text_at(step, 1)? {
+            "box" => Some(BlockNode::Box),
+            "sbox" => Some(BlockNode::Sbox),
+            "swap" => Some(BlockNode::Swap),
+            "raw" => Some(BlockNode::Raw(text(alloc, step, 2)?)),
+            "with" => {
+                let (name, bound) = text(alloc, step, 2).zip(bound(alloc, step))?;
+                Some(BlockNode::With(name, bound))
+            }
+            "glob" => Some(BlockNode::Glob),
+            _ => None,
+        }
+    }
+}
+
+/// Returns a node without parts.
+fn leaf<T: OfStep, B>(alloc: Global, step: &Json) -> Option<Node<Same, T, B>> {
+    match text_at(step, 0)? {
+        "text" => written(alloc, text_at(step, 1)?),
         "shown" => {
-            let name = variable(alloc, word(step, 1)?)?;
-            Ok(Some(Node::Chain(FilterChain::new(name, Vec::new(alloc)))))
+            let name = variable(alloc, step, 1)?;
+            Some(Node::Chain(FilterChain::new(name, Vec::new(alloc))))
         }
-        "leak" => Ok(Some(Node::Tag(leak(alloc, step)?))),
-        _ => match tag(alloc, step)? {
-            Some(tag) => Ok(Some(Node::Tag(LeakyTagNode::Plain(tag)))),
-            None => Ok(None),
-        },
-    }
-}
-
-/// Returns what a `with` binds: the number of its step, or the value of the name in it.
-fn bound(alloc: Global, step: &Json) -> Result<Box<Expression>, Fail> {
-    match step.get(3) {
-        Some(Json::String(name)) => Ok(Box::new(alloc, variable(alloc, name.as_str())?)?),
-        _ => Ok(literal(alloc, number(step, 3)?)?),
-    }
-}
-
-/// Returns the block that a step ends.
-fn block(alloc: Global, step: &Json) -> Result<BlockNode, Fail> {
-    match word(step, 1)? {
-        "box" => Ok(BlockNode::Box),
-        "sbox" => Ok(BlockNode::Sbox),
-        "swap" => Ok(BlockNode::Swap),
-        "raw" => Ok(BlockNode::Raw(text(alloc, word(step, 2)?)?)),
-        "with" => Ok(BlockNode::With(text(alloc, word(step, 2)?)?, bound(alloc, step)?)),
-        "glob" => Ok(BlockNode::Glob),
-        _ => Err(Fail::from("no block has this name")),
+        _ => Some(Node::Tag(T::of_step(alloc, step)?)),
     }
 }
 
@@ -144,99 +162,109 @@ struct Open<N> {
     parts: Vec<Vec<N>>,
 }
 
-/// Begins a block after the nodes of a list.
-fn begin<N: Drop>(
-    alloc: Global,
-    list: &mut Vec<N>,
-    open: &mut Vec<Open<N>>,
-) -> Result<(), AllocError> {
+/// Begins a block after the nodes of a list, and returns `false` if memory runs out.
+fn begins<N: Drop>(alloc: Global, list: &mut Vec<N>, open: &mut Vec<Open<N>>) -> bool {
     let outer = mem::replace(list, Vec::new(alloc));
     let parts = Vec::new(alloc);
-    open.push(Open { outer, parts })?;
-    Ok(())
+    open.push(Open { outer, parts }).is_ok()
 }
 
-/// Ends a part of the block that was begun last.
-fn divide<N: Drop>(alloc: Global, list: &mut Vec<N>, open: &mut Vec<Open<N>>) -> Result<(), Fail> {
+/// Ends a part of the block that was begun last, and returns `false` if there is none, or if memory runs out.
+fn divides<N: Drop>(alloc: Global, list: &mut Vec<N>, open: &mut Vec<Open<N>>) -> bool {
     match open.last_mut() {
-        Some(block) => Ok(block.parts.push(mem::replace(list, Vec::new(alloc)))?),
-        None => Err(Fail::from("no block is open")),
+        Some(block) => block
+            .parts
+            .push(mem::replace(list, Vec::new(alloc)))
+            .is_ok(),
+        None => false,
     }
 }
 
-/// Ends the block that was begun last, with its last part.
-fn end<X: Drop, T: Drop, B: Drop>(
+/// Ends the block that was begun last after its last part, and returns `false` if there is none, or if memory runs out.
+fn ends<X: Drop, T: Drop, B: Drop>(
     list: &mut Vec<Node<X, T, B>>,
     open: &mut Vec<Open<Node<X, T, B>>>,
     block: B,
-) -> Result<(), Fail> {
+) -> bool {
     match open.pop() {
-        Some(Open { outer, mut parts }) => {
-            parts.push(mem::replace(list, outer))?;
-            Ok(list.push(Node::Block(block, parts))?)
+        Some(Open { outer, parts }) => {
+            *list = outer;
+            list.push(Node::Block(block, parts)).is_ok()
         }
-        None => Err(Fail::from("no block is open")),
+        None => false,
     }
 }
 
-/// Begins, divides or ends a block.
-fn place(
+/// Adds a node to a list, and returns `false` if there is none, or if memory runs out.
+pub(crate) fn adds<N: Drop>(list: &mut Vec<N>, node: Option<N>) -> bool {
+    match node {
+        Some(node) => list.push(node).is_ok(),
+        None => false,
+    }
+}
+
+/// Takes a step: adds its node, or begins, divides or ends a block. Returns `false` for another step, or if memory runs
+/// out.
+fn takes<T: OfStep + Drop, B: OfStep + Drop>(
     alloc: Global,
     step: &Json,
-    list: &mut Vec<Element>,
-    open: &mut Vec<Open<Element>>,
-) -> Result<(), Fail> {
-    match word(step, 0)? {
-        "end" => end(list, open, block(alloc, step)?),
-        "mid" => divide(alloc, list, open),
-        "begin" => Ok(begin(alloc, list, open)?),
-        _ => Err(Fail::from("no step has this name")),
+    list: &mut Vec<Node<Same, T, B>>,
+    open: &mut Vec<Open<Node<Same, T, B>>>,
+) -> bool {
+    match text_at(step, 0) {
+        Some("begin") => begins(alloc, list, open),
+        Some("mid") => divides(alloc, list, open),
+        Some("end") => match B::of_step(alloc, step) {
+            Some(block) => divides(alloc, list, open) && ends(list, open, block),
+            None => false,
+        },
+        _ => adds(list, leaf(alloc, step)),
     }
 }
 
-/// Takes a step: adds its node, or begins, divides or ends a block.
-fn take(
-    alloc: Global,
-    step: &Json,
-    list: &mut Vec<Element>,
-    open: &mut Vec<Open<Element>>,
-) -> Result<(), Fail> {
-    match leaf(alloc, step)? {
-        Some(node) => Ok(list.push(node)?),
-        None => place(alloc, step, list, open),
-    }
-}
-
-/// Takes the steps one after another.
-fn take_all(
+/// Takes steps one after another, and returns `false` if one of them is none, or if memory runs out.
+fn take_all<T: OfStep + Drop, B: OfStep + Drop>(
     alloc: Global,
     steps: &Vec<Json>,
-    list: &mut Vec<Element>,
-    open: &mut Vec<Open<Element>>,
-) -> Result<(), Fail> {
+    list: &mut Vec<Node<Same, T, B>>,
+    open: &mut Vec<Open<Node<Same, T, B>>>,
+) -> bool {
     for step in steps {
-        take(alloc, step, list, open)?;
+        if !takes(alloc, step, list, open) {
+            return false;
+        }
     }
-    Ok(())
+    true
 }
 
-/// Returns the template of a list of steps. A step is a word and its arguments. A block's parts are between `begin` and
-/// `end`, divided by `mid`, and `end` names the block.
-pub(crate) fn page(alloc: Global, steps: &Vec<Json>) -> Result<Page, Fail> {
+/// Returns the nodes of a list of steps, or `None` if a step is none, or if memory runs out.
+fn nodes<T: OfStep + Drop, B: OfStep + Drop>(
+    alloc: Global,
+    steps: &Json,
+) -> Option<Vec<Node<Same, T, B>>> {
+    let steps = steps.as_array()?;
     let mut list = Vec::new(alloc);
     let mut open = Vec::new(alloc);
-    let answer = take_all(alloc, steps, &mut list, &mut open);
-    drop(open);
-    match answer {
-        Ok(()) => Ok(Template::new(list)),
-        Err(fail) => Err(fail),
+    let are_taken = take_all(alloc, steps, &mut list, &mut open) && open.is_empty();
+    if are_taken { Some(list) } else { None }
+}
+
+/// Returns the template of a list of steps, or `None` for other JSON or if memory runs out. A step is a word and its
+/// arguments. A block's parts are between `begin` and `end`, divided by `mid`, and `end` names the block.
+pub(crate) fn page<T: OfStep + Drop, B: OfStep + Drop>(
+    alloc: Global,
+    steps: &Json,
+) -> Option<Template<Same, T, B>> {
+    match nodes(alloc, steps) {
+        Some(nodes) => Some(Template::new(nodes)),
+        None => None,
     }
 }
 
-/// Returns the template of a text of JSON that is a list of steps.
-pub(crate) fn page_in(alloc: Global, text: &str) -> Result<Page, Fail> {
-    match Json::from_str(alloc, text)? {
-        Json::Array(steps) => page(alloc, &steps),
-        _ => Err(Fail::from("steps are no list")),
+/// Returns the template of a text of JSON that is a list of steps, or `None` for another text or if memory runs out.
+pub(crate) fn page_in(alloc: Global, text: &str) -> Option<Page> {
+    match Json::from_str(alloc, text) {
+        Ok(steps) => page(alloc, &steps),
+        Err(_) => None,
     }
 }

@@ -1,15 +1,17 @@
 //! Rows in any language, by each of the calls that render a template.
-use crate::kinds::{Eager, Kind, Lazy, OnDemand, source};
-use crate::renderings::{RENDERINGS, Rendering, is_rendered};
+use crate::given::made_by_hand;
+use crate::kinds::{Eager, Kind, Lazy, OnDemand, source, store_of};
+use crate::renderings::{Rendering, is_rendered};
 use liquid_core::model::{Object, to_object};
 use liquid_core::parser::{Language, ParseBlock, ParseFilter, ParseTag, parse};
 use liquid_core::partials::InMemorySource;
 use liquid_core::runtime::{BuiltRuntime, Renderable, Runtime, RuntimeBuilder, Template};
 use liquid_core::{Error, PartialStore, TextSink, render_source};
+use serde_json::Value as Json;
 use std::alloc::{AllocError, Global};
 use std::rc::Rc;
 use std::test::Fail;
-use tests_lines::Row;
+use tests_lines::{Row, is_text};
 
 /// A runtime over a store of partials.
 pub(crate) type Over<P> = BuiltRuntime<(), P>;
@@ -21,45 +23,33 @@ pub(crate) type Page<F, T, B> = Template<
     <B as ParseBlock<F>>::Node,
 >;
 
-/// Returns the names that a row sees.
-pub(crate) fn globals(alloc: Global, row: &Row) -> Result<Object, Fail> {
+/// Returns the names that a row sees: an object, or those that are made by hand if the row says so.
+pub(crate) fn globals(alloc: Global, row: &Row) -> Option<Object> {
     match row.member("globals") {
-        Some(globals) => Ok(to_object(alloc, globals)?),
-        None => Ok(Object::new(alloc)),
+        Some(Json::String(_)) if row.text("globals") == "made by hand" => made_by_hand(alloc),
+        Some(globals) => to_object(alloc, globals).ok(),
+        None => Some(Object::new(alloc)),
     }
 }
 
 /// Returns the number of partials that may be nested, 32 if the row doesn't say.
-fn depth(row: &Row) -> Result<u32, Fail> {
+fn depth(row: &Row) -> Option<u32> {
     match row.member("depth") {
-        Some(depth) => match depth.as_u64() {
-            Some(depth) => Ok(u32::try_from(depth)?),
-            None => Err(Fail::from("a depth is no number")),
-        },
-        None => Ok(32),
+        Some(depth) => u32::try_from(depth.as_u64()?).ok(),
+        None => Some(32),
     }
 }
 
-/// Returns a builder of a row's globals.
-fn builder<P: Drop>(alloc: Global, row: &Row) -> Result<RuntimeBuilder<(), P>, Fail> {
-    let globals = globals(alloc, row)?;
-    Ok(
-        RuntimeBuilder::new(alloc)
-            .set_globals(globals)
-            .set_lenient(row.is_lenient()),
-    )
-}
-
-/// Returns a runtime of a row's globals over a store.
-pub(crate) fn over<P: Drop>(alloc: Global, row: &Row, store: P) -> Result<Over<P>, Fail> {
-    let depth = depth(row)?;
-    let builder = builder(alloc, row)?;
-    Ok(builder.set_partials(store).set_depth(depth).build())
-}
-
-/// Does the same without a store.
-pub(crate) fn without_partials<P: Drop>(alloc: Global, row: &Row) -> Result<Over<P>, Fail> {
-    Ok(builder(alloc, row)?.build())
+/// Returns a runtime of a row's globals over a store, or without one if there is none.
+pub(crate) fn over<P: Drop>(alloc: Global, row: &Row, store: Option<P>) -> Option<Over<P>> {
+    let (globals, depth) = (globals(alloc, row)?, depth(row)?);
+    let builder = RuntimeBuilder::new(alloc)
+        .set_globals(globals)
+        .set_lenient(row.is_lenient());
+    match store {
+        Some(store) => Some(builder.set_partials(store).set_depth(depth).build()),
+        None => Some(builder.build()),
+    }
 }
 
 /// Returns a runtime of a row's globals, over a store of its partials if it has some.
@@ -67,7 +57,7 @@ fn runtime<F, T, B, K>(
     alloc: Global,
     row: &Row,
     language: &Rc<Language<F, T, B>>,
-) -> Result<Over<K::Store>, Fail>
+) -> Option<Over<K::Store>>
 where
     F: ParseFilter + Drop,
     T: ParseTag<F> + Drop,
@@ -75,20 +65,19 @@ where
     K: Kind<InMemorySource, F, T, B>,
 {
     if row.member("partials").is_none() {
-        return without_partials(alloc, row);
+        return over(alloc, row, None);
     }
-    over(alloc, row, K::store(alloc, source(alloc, row)?, language)?)
+    match store_of::<InMemorySource, F, T, B, K>(alloc, source(alloc, row), language) {
+        Some(store) => over(alloc, row, Some(store)),
+        None => None,
+    }
 }
 
 /// Returns `true` if a call has an error with this text, or if it has none and the text is empty.
-pub(crate) fn has_error(
-    alloc: Global,
-    answer: &Result<(), Error>,
-    text: &str,
-) -> Result<bool, AllocError> {
+pub(crate) fn has_error(alloc: Global, answer: &Result<(), Error>, text: &str) -> bool {
     match answer {
-        Ok(()) => Ok(text.is_empty()),
-        Err(error) => Ok(!text.is_empty() & (error.to_string(alloc)?.as_str() == text)),
+        Ok(()) => text.is_empty(),
+        Err(error) => !text.is_empty() && is_text(error.to_string(alloc), text),
     }
 }
 
@@ -98,18 +87,17 @@ pub(crate) fn is_told(
     row: &Row,
     sink: &TextSink,
     answer: &Result<(), Error>,
-) -> Result<bool, Fail> {
-    let has_error = has_error(alloc, answer, row.error())?;
-    Ok(has_error & (sink.as_bytes() == row.written().as_bytes()))
+) -> bool {
+    sink.as_bytes() == row.written().as_bytes() && has_error(alloc, answer, row.error())
 }
 
-/// Returns `true` if a row passes with `render_source`.
-pub(crate) fn holds_at_once<F, T, B, R>(
+/// Returns `true` if a row passes with `render_source` over a runtime.
+fn holds_at_once<F, T, B, R>(
     alloc: Global,
     row: &Row,
     language: &Language<F, T, B>,
-    mut runtime: R,
-) -> Result<bool, Fail>
+    runtime: Option<R>,
+) -> bool
 where
     F: ParseFilter + Drop,
     T: ParseTag<F> + Drop,
@@ -119,9 +107,14 @@ where
     R: Runtime<Register = ()> + Drop,
     R::Store: PartialStore<F::Filter, T::Node, B::Node>,
 {
-    let mut sink = TextSink::new(alloc);
-    let answer = render_source(alloc, row.template(), language, &mut runtime, &mut sink);
-    is_told(alloc, row, &sink, &answer)
+    match runtime {
+        Some(mut runtime) => {
+            let mut sink = TextSink::new(alloc);
+            let answer = render_source(alloc, row.template(), language, &mut runtime, &mut sink);
+            is_told(alloc, row, &sink, &answer)
+        }
+        None => false,
+    }
 }
 
 /// Returns `true` if a row's page passes with one of the calls that render a template.
@@ -131,7 +124,7 @@ fn holds_by<F, T, B, K>(
     language: &Rc<Language<F, T, B>>,
     page: &Page<F, T, B>,
     rendering: Rendering,
-) -> Result<bool, Fail>
+) -> bool
 where
     F: ParseFilter + Drop,
     T: ParseTag<F> + Drop,
@@ -140,17 +133,15 @@ where
     B::Node: Renderable<()>,
     K: Kind<InMemorySource, F, T, B>,
 {
-    let runtime = runtime::<F, T, B, K>(alloc, row, language)?;
-    is_rendered(alloc, row, page, rendering, runtime)
+    match runtime::<F, T, B, K>(alloc, row, language) {
+        Some(runtime) => is_rendered(alloc, row, page, rendering, runtime),
+        None => false,
+    }
 }
 
 /// Returns `true` if a row that is parsed once passes with each call that renders a template, or has the error of its
 /// text.
-fn holds_once_read<F, T, B, K>(
-    alloc: Global,
-    row: &Row,
-    language: &Rc<Language<F, T, B>>,
-) -> Result<bool, Fail>
+fn holds_once_read<F, T, B, K>(alloc: Global, row: &Row, language: &Rc<Language<F, T, B>>) -> bool
 where
     F: ParseFilter + Drop,
     T: ParseTag<F> + Drop,
@@ -159,24 +150,20 @@ where
     B::Node: Renderable<()>,
     K: Kind<InMemorySource, F, T, B>,
 {
-    let page = match parse(alloc, row.template(), language) {
-        Ok(nodes) => Template::new(nodes),
-        Err(error) => return Ok(error.to_string(alloc)?.as_str() == row.error()),
-    };
-    for rendering in RENDERINGS {
-        if !holds_by::<F, T, B, K>(alloc, row, language, &page, rendering)? {
-            return Ok(false);
+    match parse(alloc, row.template(), language) {
+        Ok(nodes) => {
+            let page = Template::new(nodes);
+            holds_by::<F, T, B, K>(alloc, row, language, &page, Rendering::To)
+                && holds_by::<F, T, B, K>(alloc, row, language, &page, Rendering::Whole)
+                && holds_by::<F, T, B, K>(alloc, row, language, &page, Rendering::Chained)
+                && holds_by::<F, T, B, K>(alloc, row, language, &page, Rendering::Flat)
         }
+        Err(error) => is_text(error.to_string(alloc), row.error()),
     }
-    Ok(true)
 }
 
-/// Returns `true` if a row passes with each of the calls.
-fn holds_by_each<F, T, B, K>(
-    alloc: Global,
-    row: &Row,
-    language: &Rc<Language<F, T, B>>,
-) -> Result<bool, Fail>
+/// Returns `true` if a row passes with each of the calls, over a kind of store.
+fn holds_by_each<F, T, B, K>(alloc: Global, row: &Row, language: &Rc<Language<F, T, B>>) -> bool
 where
     F: ParseFilter + Drop,
     T: ParseTag<F> + Drop,
@@ -185,65 +172,65 @@ where
     B::Node: Renderable<()>,
     K: Kind<InMemorySource, F, T, B>,
 {
-    let runtime = runtime::<F, T, B, K>(alloc, row, language)?;
-    let at_once = holds_at_once(alloc, row, language, runtime)?;
-    let once_read = holds_once_read::<F, T, B, K>(alloc, row, language)?;
-    Ok(at_once & once_read)
+    holds_at_once(
+        alloc,
+        row,
+        language,
+        runtime::<F, T, B, K>(alloc, row, language),
+    ) && holds_once_read::<F, T, B, K>(alloc, row, language)
 }
 
-/// Returns `true` if the row of a line passes with each of the calls, with strict names and with lenient ones.
-fn line_holds<F, T, B, K>(
+/// Returns `true` if a row passes over partials that are parsed on demand, and if `each_store` is true over those of
+/// each kind of store.
+fn row_holds<F, T, B>(
+    alloc: Global,
+    row: &Row,
+    each_store: bool,
+    language: &Rc<Language<F, T, B>>,
+) -> bool
+where
+    F: ParseFilter + Drop,
+    T: ParseTag<F> + Drop,
+    B: ParseBlock<F> + Drop,
+    T::Node: Renderable<()>,
+    B::Node: Renderable<()>,
+{
+    holds_by_each::<F, T, B, OnDemand>(alloc, row, language)
+        && (!each_store
+            || holds_by_each::<F, T, B, Lazy>(alloc, row, language)
+                && holds_by_each::<F, T, B, Eager>(alloc, row, language))
+}
+
+/// Returns `true` if the row of a line passes with strict names and with lenient ones.
+fn line_holds<F, T, B>(
     alloc: Global,
     line: &str,
+    each_store: bool,
     language: &Rc<Language<F, T, B>>,
-) -> Result<bool, Fail>
+) -> bool
 where
     F: ParseFilter + Drop,
     T: ParseTag<F> + Drop,
     B: ParseBlock<F> + Drop,
     T::Node: Renderable<()>,
     B::Node: Renderable<()>,
-    K: Kind<InMemorySource, F, T, B>,
 {
-    let row = Row::of(alloc, line)?;
-    let is_strict = holds_by_each::<F, T, B, K>(alloc, &row, language)?;
-    let is_lenient = holds_by_each::<F, T, B, K>(alloc, &row.leniently(), language)?;
-    Ok(is_strict & is_lenient)
-}
-
-/// Fails for the first row of a table that does not pass with each of the calls, with strict names and with lenient
-/// ones, and for a table with another number of rows.
-fn all_hold<F, T, B, K>(
-    alloc: Global,
-    rows: &str,
-    language: &Rc<Language<F, T, B>>,
-    count: usize,
-) -> Result<(), Fail>
-where
-    F: ParseFilter + Drop,
-    T: ParseTag<F> + Drop,
-    B: ParseBlock<F> + Drop,
-    T::Node: Renderable<()>,
-    B::Node: Renderable<()>,
-    K: Kind<InMemorySource, F, T, B>,
-{
-    for line in rows.lines() {
-        if !line_holds::<F, T, B, K>(alloc, line, language)? {
-            return Err(Fail::new(format_args!("this row doesn't hold: {line}")));
+    match Row::of(alloc, line) {
+        Some(row) => {
+            row_holds(alloc, &row, each_store, language)
+                && row_holds(alloc, &row.leniently(), each_store, language)
         }
+        None => false,
     }
-    tests_lines::holds(rows.lines().count() == count, "a table has all its rows")
 }
 
 /// A table of rows, and the number of its rows.
 pub(crate) type Table<'r> = (&'r str, usize);
 
-/// Fails for the first row of the tables that does not pass with each of the calls, over partials that are parsed on
-/// demand, and if `each_store` is true over those of each kind of store. A test names a language in one call of this
-/// function, since a check of tests costs with each call that names one.
-pub(crate) fn tables_hold<F, T, B>(
+/// Fails for the first row of a table that does not pass, and for a table with another number of rows.
+fn table_holds<F, T, B>(
     alloc: Global,
-    tables: &[Table<'_>],
+    (rows, count): Table<'_>,
     each_store: bool,
     language: &Rc<Language<F, T, B>>,
 ) -> Result<(), Fail>
@@ -254,12 +241,33 @@ where
     T::Node: Renderable<()>,
     B::Node: Renderable<()>,
 {
-    for (rows, count) in tables {
-        all_hold::<F, T, B, OnDemand>(alloc, rows, language, *count)?;
-        if each_store {
-            all_hold::<F, T, B, Lazy>(alloc, rows, language, *count)?;
-            all_hold::<F, T, B, Eager>(alloc, rows, language, *count)?;
+    for line in rows.lines() {
+        if !line_holds(alloc, line, each_store, language) {
+            return Err(Fail::new(format_args!("this row doesn't hold: {line}")));
         }
+    }
+    tests_lines::holds(rows.lines().count() == count, "a table has all its rows")
+}
+
+/// Fails for the first row of the tables that does not pass with each of the calls, with strict names and with lenient
+/// ones, over partials that are parsed on demand, and if `each_store` is true over those of each kind of store. A test
+/// names a language in one call of this function, since a check of tests costs with each call that names one.
+pub(crate) fn tables_hold<F, T, B>(
+    alloc: Global,
+    tables: &[Table<'_>],
+    each_store: bool,
+    language: Result<Language<F, T, B>, AllocError>,
+) -> Result<(), Fail>
+where
+    F: ParseFilter + Drop,
+    T: ParseTag<F> + Drop,
+    B: ParseBlock<F> + Drop,
+    T::Node: Renderable<()>,
+    B::Node: Renderable<()>,
+{
+    let language = Rc::new(alloc, language?)?;
+    for table in tables {
+        table_holds(alloc, *table, each_store, &language)?;
     }
     Ok(())
 }

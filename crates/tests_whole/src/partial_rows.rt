@@ -1,6 +1,6 @@
 //! Requests to stores, and templates with partials.
 use crate::given::no_names;
-use crate::kinds::{Eager, Kind, Lazy, OnDemand, source_of};
+use crate::kinds::{Eager, Kind, Lazy, OnDemand, add, source_of, store_of};
 use crate::languages::plain_language;
 use liquid_core::parser::{Language, Meant, ParseBlock, ParseFilter, ParseTag};
 use liquid_core::partials::{
@@ -13,7 +13,7 @@ use std::alloc::{AllocError, Global};
 use std::borrow::CowStr;
 use std::rc::Rc;
 use std::test::Fail;
-use tests_lines::{Line, holds, same};
+use tests_lines::{Line, holds, is_text};
 
 /// Templates with partials.
 pub(crate) const ROWS: &str =
@@ -32,40 +32,38 @@ pub(crate) const ROWS: &str =
 {"partials": [["a", "1{% inc b %}"], ["b", "2{% inc c %}"], ["c", "3"]], "template": "{% inc a %}{% inc c %}", "depth": 2, "written": "12", "error": "liquid: Partials nest too deep\n"}
 {"partials": [["p", "{% box %}x"]], "template": "{% box %}a{% inc p %}{% endbox %}", "depth": 1, "written": "[a", "error": "liquid: Unclosed block. {% endbox %} tag expected. (line 1, column 11)\n"}"#;
 
-/// Returns what a call returns, or the text of its error.
-fn text_of(alloc: Global, answer: Result<String, Error>) -> Result<String, AllocError> {
+/// Returns `true` if a call returns a text, or has an error with this text.
+fn comes_to(alloc: Global, answer: Result<String, Error>, wanted: &str) -> bool {
     match answer {
-        Ok(text) => Ok(text),
-        Err(error) => error.to_string(alloc),
+        Ok(text) => text.as_str() == wanted,
+        Err(error) => is_text(error.to_string(alloc), wanted),
     }
 }
 
-/// Returns what a partial is by itself: its text over a runtime without globals.
-fn shown<X, T, B>(
+/// Returns `true` if a partial by itself, over a runtime without globals, has this text, or its error has it.
+fn is_shown<X, T, B>(
     alloc: Global,
     found: Result<Rc<Template<X, T, B>>, Error>,
-) -> Result<String, AllocError>
+    wanted: &str,
+) -> bool
 where
     X: Filter,
     T: Renderable<()>,
     B: Renderable<()>,
 {
     match found {
-        Err(error) => error.to_string(alloc),
-        Ok(template) => {
-            let answer = template.render(alloc, &mut no_names(alloc));
-            text_of(alloc, answer)
-        }
+        Ok(template) => comes_to(alloc, template.render(alloc, &mut no_names(alloc)), wanted),
+        Err(error) => is_text(error.to_string(alloc), wanted),
     }
 }
 
 /// The partials that are requested.
 const SOURCES: &str = r#"[["p", "P"], ["q", "Q"], ["bad", "{% nope %}"]]"#;
 
-pub(crate) fn source(alloc: Global) -> Result<InMemorySource, Fail> {
-    match Json::from_str(alloc, SOURCES)? {
-        Json::Array(partials) => source_of(alloc, &partials),
-        _ => Err(Fail::from("partials are no list")),
+pub(crate) fn source(alloc: Global) -> Option<InMemorySource> {
+    match Json::from_str(alloc, SOURCES) {
+        Ok(partials) => source_of(alloc, &partials),
+        Err(_) => None,
     }
 }
 
@@ -81,32 +79,22 @@ const REQUESTS: &str = r#"["p", "P"]
 ["p", "P"]"#;
 
 /// Returns `true` if `try_get` returns the tree that has this text, or none if it is the text of an error.
-fn agrees<S, X, T, B>(
-    alloc: Global,
-    store: &mut S,
-    name: &str,
-    is_tree: bool,
-    text: &str,
-) -> Result<bool, AllocError>
+fn agrees<S, X, T, B>(alloc: Global, store: &mut S, name: &str, is_tree: bool, text: &str) -> bool
 where
     S: PartialStore<X, T, B>,
     X: Filter,
     T: Renderable<()>,
     B: Renderable<()>,
 {
-    match PartialStore::<X, T, B>::try_get(store, alloc, name)? {
-        None => Ok(!is_tree),
-        Some(template) => Ok(is_tree & (shown(alloc, Ok(template))?.as_str() == text)),
+    match PartialStore::<X, T, B>::try_get(store, alloc, name) {
+        Ok(Some(template)) => is_tree && is_shown(alloc, Ok(template), text),
+        Ok(None) => !is_tree,
+        Err(_) => false,
     }
 }
 
 /// Returns `true` if `get` returns for a name what is wanted, and `try_get` the same tree, or none for an error.
-fn answers<S, X, T, B>(
-    alloc: Global,
-    store: &mut S,
-    name: &str,
-    wanted: &str,
-) -> Result<bool, AllocError>
+fn answers<S, X, T, B>(alloc: Global, store: &mut S, name: &str, wanted: &str) -> bool
 where
     S: PartialStore<X, T, B>,
     X: Filter,
@@ -115,52 +103,66 @@ where
 {
     let found = PartialStore::<X, T, B>::get(store, alloc, name);
     let is_tree = found.is_ok();
-    let is_wanted = shown(alloc, found)?.as_str() == wanted;
-    let agrees = agrees::<S, X, T, B>(alloc, store, name, is_tree, wanted)?;
-    Ok(is_wanted & agrees)
+    is_shown(alloc, found, wanted) && agrees::<S, X, T, B>(alloc, store, name, is_tree, wanted)
 }
 
-/// Returns `true` if a store returns for a request what its row says.
-fn is_answered<S, X, T, B>(alloc: Global, store: &mut S, line: &str) -> Result<bool, Fail>
+/// Returns `true` if a store returns for a request what the row of a line says.
+fn is_answered<S, X, T, B>(alloc: Global, store: &mut S, line: &str) -> bool
 where
     S: PartialStore<X, T, B>,
     X: Filter,
     T: Renderable<()>,
     B: Renderable<()>,
 {
-    let row = Line::of(alloc, line)?;
-    Ok(answers::<S, X, T, B>(alloc, store, row.text(0)?, row.text(1)?)?)
+    match Line::of(alloc, line) {
+        Some(row) => match (row.text(0), row.text(1)) {
+            (Some(name), Some(wanted)) => answers::<S, X, T, B>(alloc, store, name, wanted),
+            _ => false,
+        },
+        None => false,
+    }
+}
+
+/// Returns `true` if these are the names, with spaces between them.
+pub(crate) fn are_names(alloc: Global, names: Result<Vec<&str>, AllocError>, wanted: &str) -> bool {
+    match names {
+        Ok(names) => is_text(names.join(alloc, " "), wanted),
+        Err(_) => false,
+    }
 }
 
 /// Returns `true` if the store of the sources has their names and no other.
-pub(crate) fn lists_its_names<S, X, T, B>(alloc: Global, store: &S) -> Result<bool, AllocError>
+pub(crate) fn has_its_names<S, X, T, B>(alloc: Global, store: &S) -> bool
 where
     S: PartialStore<X, T, B>,
     X: Filter,
     T: Meant + Drop,
     B: Meant + Drop,
 {
-    let names = PartialStore::<X, T, B>::names(store, alloc)?.join(alloc, " ")?;
-    let has_bad = PartialStore::<X, T, B>::contains(store, "bad");
-    let has_none = PartialStore::<X, T, B>::contains(store, "none");
-    Ok((names.as_str() == "bad p q") & has_bad & !has_none)
+    PartialStore::<X, T, B>::contains(store, "bad")
+        && !PartialStore::<X, T, B>::contains(store, "none")
+        && are_names(
+            alloc,
+            PartialStore::<X, T, B>::names(store, alloc),
+            "bad p q",
+        )
 }
 
 /// Fails for a store of the sources that returns something else than the rows say.
-fn answers_all<S, X, T, B>(alloc: Global, mut store: S) -> Result<(), Fail>
+fn answers_all<S, X, T, B>(alloc: Global, store: &mut S) -> Result<(), Fail>
 where
-    S: PartialStore<X, T, B> + Drop,
+    S: PartialStore<X, T, B>,
     X: Filter,
     T: Renderable<()>,
     B: Renderable<()>,
 {
     for line in REQUESTS.lines() {
-        if !is_answered::<S, X, T, B>(alloc, &mut store, line)? {
+        if !is_answered::<S, X, T, B>(alloc, store, line) {
             return Err(Fail::new(format_args!("this request has another answer: {line}")));
         }
     }
     holds(
-        lists_its_names::<S, X, T, B>(alloc, &store)?,
+        has_its_names::<S, X, T, B>(alloc, store),
         "a store has its names",
     )
 }
@@ -175,12 +177,19 @@ where
     B::Node: Renderable<()>,
     K: Kind<InMemorySource, F, T, B>,
 {
-    let store = K::store(alloc, source(alloc)?, language)?;
-    answers_all::<K::Store, F::Filter, T::Node, B::Node>(alloc, store)
+    match store_of::<InMemorySource, F, T, B, K>(alloc, source(alloc), language) {
+        Some(mut store) => {
+            answers_all::<K::Store, F::Filter, T::Node, B::Node>(alloc, &mut store)
+        }
+        None => Err(Fail::from("a store runs out of memory")),
+    }
 }
 
 /// Fails if one of the kinds of stores returns something else than the rows say.
-fn answers_from_each<F, T, B>(alloc: Global, language: &Rc<Language<F, T, B>>) -> Result<(), Fail>
+fn answers_from_each<F, T, B>(
+    alloc: Global,
+    language: Result<Rc<Language<F, T, B>>, AllocError>,
+) -> Result<(), Fail>
 where
     F: ParseFilter + Drop,
     T: ParseTag<F> + Drop,
@@ -188,133 +197,137 @@ where
     T::Node: Renderable<()>,
     B::Node: Renderable<()>,
 {
-    answers_from::<F, T, B, Eager>(alloc, language)?;
-    answers_from::<F, T, B, Lazy>(alloc, language)?;
-    answers_from::<F, T, B, OnDemand>(alloc, language)
-}
-
-/// Requests a partial, and drops what the store returns.
-pub(crate) fn request<S, X, T, B>(
-    alloc: Global,
-    store: &mut S,
-    name: &str,
-) -> Result<(), AllocError>
-where
-    S: PartialStore<X, T, B>,
-    X: Filter,
-    T: Meant + Drop,
-    B: Meant + Drop,
-{
-    PartialStore::<X, T, B>::try_get(store, alloc, name)?;
-    Ok(())
-}
-
-/// Gets a partial, and drops the template or the error.
-pub(crate) fn get<S, X, T, B>(alloc: Global, store: &mut S, name: &str)
-where
-    S: PartialStore<X, T, B>,
-    X: Filter,
-    T: Meant + Drop,
-    B: Meant + Drop,
-{
-    let _answer = PartialStore::<X, T, B>::get(store, alloc, name);
+    let language = language?;
+    answers_from::<F, T, B, Eager>(alloc, &language)?;
+    answers_from::<F, T, B, Lazy>(alloc, &language)?;
+    answers_from::<F, T, B, OnDemand>(alloc, &language)
 }
 
 #[test]
 fn requests_have_the_same_answers_from_all_stores(rt: HostRuntime) -> Result<(), Fail> {
-    let alloc = rt.alloc();
-    answers_from_each(alloc, &plain_language(alloc)?)
+    answers_from_each(rt.alloc(), plain_language(rt.alloc()))
 }
 
-/// Fails for a lazy store of the sources that keeps something else than the trees and the faults that it was asked for.
+/// Returns `true` if `try_get` returns a tree, or if it returns none and `is_tree` is false.
+pub(crate) fn requests<S, X, T, B>(alloc: Global, store: &mut S, name: &str, is_tree: bool) -> bool
+where
+    S: PartialStore<X, T, B>,
+    X: Filter,
+    T: Meant + Drop,
+    B: Meant + Drop,
+{
+    match PartialStore::<X, T, B>::try_get(store, alloc, name) {
+        Ok(found) => found.is_some() == is_tree,
+        Err(_) => false,
+    }
+}
+
+/// Returns `true` if `get` returns a tree, or if it has an error and `is_tree` is false.
+pub(crate) fn gets<S, X, T, B>(alloc: Global, store: &mut S, name: &str, is_tree: bool) -> bool
+where
+    S: PartialStore<X, T, B>,
+    X: Filter,
+    T: Meant + Drop,
+    B: Meant + Drop,
+{
+    PartialStore::<X, T, B>::get(store, alloc, name).is_ok() == is_tree
+}
+
+/// Returns `true` if a lazy store of the sources keeps just the trees and the faults that it was asked for.
 fn keeps_trees_and_faults<F, T, B>(
     alloc: Global,
-    mut store: LazyStore<InMemorySource, F, T, B>,
-) -> Result<(), Fail>
+    store: &mut LazyStore<InMemorySource, F, T, B>,
+) -> bool
 where
     F: ParseFilter + Drop,
     T: ParseTag<F> + Drop,
     B: ParseBlock<F> + Drop,
 {
-    holds(
-        !store.is_kept("p") & !store.is_kept("bad"),
-        "nothing is kept yet",
-    )?;
-    get::<_, F::Filter, T::Node, B::Node>(alloc, &mut store, "bad");
-    holds(store.is_kept("bad"), "a fault is kept")?;
-    get::<_, F::Filter, T::Node, B::Node>(alloc, &mut store, "none");
-    holds(!store.is_kept("none"), "a name without a text is not kept")?;
-    request::<_, F::Filter, T::Node, B::Node>(alloc, &mut store, "p")?;
-    holds(store.is_kept("p") & !store.is_kept("q"), "a tree is kept")
+    !store.is_kept("p")
+        && !store.is_kept("bad")
+        && gets::<_, F::Filter, T::Node, B::Node>(alloc, store, "bad", false)
+        && store.is_kept("bad")
+        && gets::<_, F::Filter, T::Node, B::Node>(alloc, store, "none", false)
+        && !store.is_kept("none")
+        && requests::<_, F::Filter, T::Node, B::Node>(alloc, store, "p", true)
+        && store.is_kept("p")
+        && !store.is_kept("q")
 }
 
-/// Fails if a lazy store in a language keeps something else than that.
-fn lazily_keeps_trees_and_faults<F, T, B>(
-    alloc: Global,
-    language: &Rc<Language<F, T, B>>,
-) -> Result<(), Fail>
+/// Returns `true` if a lazy store in a language keeps just that.
+fn is_lazy<F, T, B>(alloc: Global, language: Result<Rc<Language<F, T, B>>, AllocError>) -> bool
 where
     F: ParseFilter + Drop,
     T: ParseTag<F> + Drop,
     B: ParseBlock<F> + Drop,
 {
-    let store = Lazy::store(alloc, source(alloc)?, language)?;
-    keeps_trees_and_faults(alloc, store)
+    match source(alloc).zip(language.ok()) {
+        Some((source, language)) => match Lazy::store(alloc, source, language) {
+            Ok(mut store) => keeps_trees_and_faults(alloc, &mut store),
+            Err(_) => false,
+        },
+        None => false,
+    }
 }
 
 #[test]
 fn a_lazy_store_keeps_trees_and_faults(rt: HostRuntime) -> Result<(), Fail> {
-    let alloc = rt.alloc();
-    lazily_keeps_trees_and_faults(alloc, &plain_language(alloc)?)
-}
-
-/// Returns `true` if a text takes the place of another.
-fn is_replaced(alloc: Global, texts: &mut InMemorySource, text: &str) -> Result<bool, Fail> {
-    let name = String::from_str(alloc, "p")?;
-    Ok(texts.add(name, String::from_str(alloc, text)?)?)
+    holds(
+        is_lazy(rt.alloc(), plain_language(rt.alloc())),
+        "a lazy store keeps the trees and the faults that it was asked for",
+    )
 }
 
 const UNKNOWN: &str =
     "liquid: Unknown partial-template\n  with:\n    requested partial=q\n    available partials=p\n";
 
-/// Fails for something else than the refusal of `q`.
-fn is_unknown(alloc: Global, answer: Result<CowStr<'_>, Error>) -> Result<(), Fail> {
+/// Returns `true` if a request returns a text, or has an error with this text.
+fn is_answer(alloc: Global, answer: Result<CowStr<'_>, Error>, wanted: &str) -> bool {
     match answer {
-        Ok(_) => Err(Fail::from("q has a text")),
-        Err(error) => same(error.to_string(alloc)?.as_str(), UNKNOWN),
+        Ok(text) => text.as_str() == wanted,
+        Err(error) => is_text(error.to_string(alloc), wanted),
     }
 }
 
-/// Refuses a source that has more than `p`, or another text for it.
-fn has_the_new_text<S: PartialSource>(alloc: Global, source: &S) -> Result<(), Fail> {
-    holds(source.contains("p"), "p has a text")?;
-    holds(!source.contains("q"), "q has no text")?;
-    let names = PartialSource::names(source, alloc)?.join(alloc, " ")?;
-    same(names.as_str(), "p")?;
-    same(PartialSource::get(source, alloc, "p")?.as_str(), "new")?;
-    let found = PartialSource::try_get(source, alloc, "q")?;
-    holds(found.is_none(), "no text is found for q")?;
-    is_unknown(alloc, PartialSource::get(source, alloc, "q"))
+/// Returns `true` if a source has `p` alone, with the new text.
+fn has_the_new_text<S: PartialSource>(alloc: Global, source: &S) -> bool {
+    source.contains("p")
+        && !source.contains("q")
+        && are_names(alloc, PartialSource::names(source, alloc), "p")
+        && is_answer(alloc, PartialSource::get(source, alloc, "p"), "new")
+        && matches!(PartialSource::try_get(source, alloc, "q"), Ok(None))
+        && is_answer(alloc, PartialSource::get(source, alloc, "q"), UNKNOWN)
 }
 
-/// Fails unless an empty source has no names, and a text takes the place of an earlier one.
-fn is_changed_in_place(
-    alloc: Global,
-    compiler: &mut EagerCompiler<InMemorySource>,
-) -> Result<(), Fail> {
-    let count = compiler.source().names(alloc)?.len();
-    holds(count == 0, "an empty source has no names")?;
+/// Returns `true` if an empty source has no names, and a text takes the place of an earlier one.
+fn is_changed_in_place(alloc: Global, compiler: &mut EagerCompiler<InMemorySource>) -> bool {
+    let is_empty = match compiler.source().names(alloc) {
+        Ok(names) => names.is_empty(),
+        Err(_) => false,
+    };
     let texts = compiler.source_mut();
-    holds(!is_replaced(alloc, texts, "old")?, "p had no text")?;
-    holds(is_replaced(alloc, texts, "new")?, "p had a text")
+    is_empty
+        && matches!(add(alloc, texts, "p", "old"), Ok(false))
+        && matches!(add(alloc, texts, "p", "new"), Ok(true))
+}
+
+/// Returns `true` if the copy of a source has `p` alone, with the new text.
+fn is_copied(alloc: Global, source: &InMemorySource) -> bool {
+    match source.clone() {
+        Ok(copy) => has_the_new_text(alloc, &copy),
+        Err(_) => false,
+    }
 }
 
 #[test]
 fn a_source_is_a_map_of_texts(rt: HostRuntime) -> Result<(), Fail> {
     let alloc = rt.alloc();
     let mut compiler: EagerCompiler<InMemorySource> = EagerCompiler::empty(alloc);
-    is_changed_in_place(alloc, &mut compiler)?;
-    has_the_new_text(alloc, &InMemorySource::clone(compiler.source())?)?;
-    let unknown = unknown_partial(alloc, "q", &["p"]);
-    same(unknown.to_string(alloc)?.as_str(), UNKNOWN)
+    let is_changed = is_changed_in_place(alloc, &mut compiler);
+    let is_copied = is_copied(alloc, compiler.source());
+    let unknown = unknown_partial(alloc, "q", &["p"]).to_string(alloc);
+    holds(
+        is_changed && is_copied && is_text(unknown, UNKNOWN),
+        "a text takes the place of an earlier one",
+    )
 }

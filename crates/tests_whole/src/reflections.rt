@@ -4,88 +4,84 @@ use bench::languages::hostile_language;
 use bench::{Blocks, Filters, HostileBlocks, HostileTags};
 use liquid_core::parser::{
     BlockReflection, FilterParametersReflection, FilterReflection, ParameterReflection, ParseBlock,
-    TagReflection,
+    PluginRegistry, TagReflection,
 };
 use liquid_tags::Blocks as LibraryBlocks;
-use std::alloc::{AllocError, Global};
+use std::alloc::Global;
 use std::test::Fail;
-use tests_lines::{Line, holds, rows_hold, same};
+use tests_lines::{Line, holds, is_text, rows_hold};
 
-/// Returns the parameters, each with its name, its description and whether it may be left out, joined by `; `.
-fn listed(alloc: Global, parameters: &[ParameterReflection]) -> Result<String, AllocError> {
-    let mut lines = Vec::new(alloc);
+/// Adds a parameter to a list, with its name, its description and whether it may be left out. Returns `false` if memory
+/// runs out.
+fn lists(all: &mut String, parameter: &ParameterReflection) -> bool {
+    let kind = if parameter.is_optional {
+        " (optional): "
+    } else {
+        " (needed): "
+    };
+    (all.is_empty() || all.push_str("; ").is_ok())
+        && all.push_str(parameter.name).is_ok()
+        && all.push_str(kind).is_ok()
+        && all.push_str(parameter.description).is_ok()
+}
+
+/// Returns `true` if a text lists these parameters, joined by `; `.
+fn are_listed(alloc: Global, parameters: &[ParameterReflection], text: Option<&str>) -> bool {
+    let mut all = String::new(alloc);
     for parameter in parameters {
-        let kind = if parameter.is_optional {
-            "optional"
-        } else {
-            "needed"
-        };
-        lines.push(format!(in alloc; "{} ({kind}): {}", parameter.name, parameter.description)?)?;
+        if !lists(&mut all, parameter) {
+            return false;
+        }
     }
-    lines.join(alloc, "; ")
+    text == Some(all.as_str())
 }
 
 /// Returns `true` if a row has these texts at its first places.
-fn are_texts(row: &Line, texts: &[&str]) -> Result<bool, Fail> {
+fn are_texts(row: &Line, texts: &[&str]) -> bool {
     for (place, text) in texts.iter().enumerate() {
-        if row.text(place)? != *text {
-            return Ok(false);
+        if row.text(place) != Some(*text) {
+            return false;
         }
     }
-    Ok(true)
+    true
 }
 
 /// Returns `true` if a filter has the name, the description and the parameters of a row.
-pub(crate) fn filter_is_told<P: FilterReflection>(
-    alloc: Global,
-    filter: &P,
-    row: &Line,
-) -> Result<bool, Fail> {
-    let positional = listed(alloc, filter.positional_parameters())?;
-    let keyword = listed(alloc, filter.keyword_parameters())?;
-    are_texts(
-        row,
-        &[
-            filter.name(),
-            filter.description(),
-            positional.as_str(),
-            keyword.as_str(),
-        ],
-    )
+pub(crate) fn filter_is_told<P: FilterReflection>(alloc: Global, filter: &P, row: &Line) -> bool {
+    are_texts(row, &[filter.name(), filter.description()])
+        && are_listed(alloc, filter.positional_parameters(), row.text(2))
+        && are_listed(alloc, filter.keyword_parameters(), row.text(3))
 }
 
 /// Returns `true` if a tag has the name and the description of a row, and neither an example nor a spec.
-pub(crate) fn tag_is_told<T: TagReflection>(tag: &T, row: &Line) -> Result<bool, Fail> {
-    let is_told = are_texts(row, &[tag.tag(), tag.description()])?;
-    Ok(is_told & tag.example().is_none() & tag.spec().is_none())
+pub(crate) fn tag_is_told<T: TagReflection>(tag: &T, row: &Line) -> bool {
+    are_texts(row, &[tag.tag(), tag.description()])
+        && tag.example().is_none()
+        && tag.spec().is_none()
 }
 
 /// Returns `true` if a block has the tags and the description of a row, and neither an example nor a spec.
-pub(crate) fn block_is_told<B: BlockReflection>(block: &B, row: &Line) -> Result<bool, Fail> {
-    let texts = [block.start_tag(), block.end_tag(), block.description()];
-    let is_told = are_texts(row, &texts)?;
-    Ok(is_told & block.example().is_none() & block.spec().is_none())
+pub(crate) fn block_is_told<B: BlockReflection>(block: &B, row: &Line) -> bool {
+    are_texts(
+        row,
+        &[block.start_tag(), block.end_tag(), block.description()],
+    ) && block.example().is_none()
+        && block.spec().is_none()
 }
 
 /// Returns `true` if names with spaces between them are a text.
-fn are_joined(alloc: Global, names: &[&str], text: &str) -> Result<bool, AllocError> {
-    let mut list = Vec::new(alloc);
-    for name in names {
-        list.push(*name)?;
+fn are_joined(alloc: Global, names: &[&str], text: Option<&str>) -> bool {
+    match text {
+        Some(text) => is_text(names.join(alloc, " "), text),
+        None => false,
     }
-    Ok(list.join(alloc, " ")?.as_str() == text)
 }
 
 /// Returns `true` if a block has the dividers of a row, and escapes and nests as the row says.
-pub(crate) fn body_is_told<B: ParseBlock<Filters>>(
-    alloc: Global,
-    block: &B,
-    row: &Line,
-) -> Result<bool, Fail> {
-    let is_divided = are_joined(alloc, block.dividers(), row.text(3)?)?;
-    let escapes = block.escapes() == row.truth(4)?;
-    let nests = block.nests() == row.truth(5)?;
-    Ok(is_divided & escapes & nests)
+pub(crate) fn body_is_told<B: ParseBlock<Filters>>(alloc: Global, block: &B, row: &Line) -> bool {
+    are_joined(alloc, block.dividers(), row.text(3))
+        && Some(block.escapes()) == row.truth(4)
+        && Some(block.nests()) == row.truth(5)
 }
 
 /// Name, description, parameters by place, parameters by keyword.
@@ -93,17 +89,27 @@ const FILTERS: &str =
     r#"["append", "The input's text with the text of a value after it.", "value (needed): What is put after the input.", ""]
 ["fail", "Refuses each input.", "", ""]"#;
 
+/// Returns `true` if a filter is as the row of a line says.
+fn filter_holds(alloc: Global, filter: Filters, line: &str) -> bool {
+    match Line::of(alloc, line) {
+        Some(row) => filter_is_told(alloc, &filter, &row),
+        None => false,
+    }
+}
+
 #[test]
 fn filters_tell_what_they_are(rt: HostRuntime) -> Result<(), Fail> {
     let alloc = rt.alloc();
     for (line, filter) in FILTERS.lines().zip([Filters::Append, Filters::Fail]) {
-        let row = Line::of(alloc, line)?;
-        holds(filter_is_told(alloc, &filter, &row)?, line)?;
+        holds(filter_holds(alloc, filter, line), line)?;
     }
-    let positional = listed(alloc, AppendParameters::positional_parameters())?;
-    same(
-        positional.as_str(),
-        "value (needed): What is put after the input.",
+    holds(
+        are_listed(
+            alloc,
+            AppendParameters::positional_parameters(),
+            Some("value (needed): What is put after the input."),
+        ),
+        "the parameters by place",
     )?;
     let keyword = AppendParameters::keyword_parameters();
     holds(keyword.is_empty(), "no parameter has a keyword")
@@ -116,17 +122,28 @@ const TAGS: &str = r#"["set", "Sets a global to a value, and writes nothing."]
 ["spin", "Writes `s` at each of its turns, and never ends."]
 ["mute", "Has no turns."]"#;
 
-fn tag_is_found(alloc: Global, row: &Line) -> Result<bool, Fail> {
-    let language = hostile_language(alloc)?;
-    match language.tags.get(row.text(0)?) {
-        Some(tag) => tag_is_told::<HostileTags>(tag, row),
-        None => Ok(false),
+/// Returns `true` if the tag of a row's name is as the row says.
+fn tag_is_found<T: TagReflection + Drop>(tags: &PluginRegistry<T>, row: &Line) -> bool {
+    match row.text(0) {
+        Some(name) => match tags.get(name) {
+            Some(tag) => tag_is_told(tag, row),
+            None => false,
+        },
+        None => false,
+    }
+}
+
+/// Returns `true` if that is so in the language of malicious plug-ins.
+fn hostile_tag_is_found(alloc: Global, row: &Line) -> bool {
+    match hostile_language(alloc) {
+        Ok(language) => tag_is_found(&language.tags, row),
+        Err(_) => false,
     }
 }
 
 #[test]
 fn tags_tell_what_they_are(rt: HostRuntime) -> Result<(), Fail> {
-    rows_hold(rt.alloc(), TAGS, tag_is_found)
+    rows_hold(rt.alloc(), TAGS, hostile_tag_is_found)
 }
 
 /// Start tag, end tag, description, dividers, whether it escapes, and whether it nests.
@@ -144,15 +161,20 @@ const LIBRARY: &str =
 ["raw", "endraw", "Writes its body as it stands.", "", true, false]"#;
 
 /// Returns `true` if a block is as the row of a line says, with its body.
-fn block_holds<B: ParseBlock<Filters>>(alloc: Global, block: &B, line: &str) -> Result<bool, Fail> {
-    let row = Line::of(alloc, line)?;
-    let is_told = block_is_told(block, &row)?;
-    Ok(is_told & body_is_told(alloc, block, &row)?)
+fn block_holds<B: ParseBlock<Filters>>(alloc: Global, block: &B, line: &str) -> bool {
+    match Line::of(alloc, line) {
+        Some(row) => block_is_told(block, &row) && body_is_told(alloc, block, &row),
+        None => false,
+    }
+}
+
+/// Returns `true` if a block of the test plug-ins is as a line says, and the same block among malicious ones.
+fn plain_block_holds(alloc: Global, block: Blocks, line: &str) -> bool {
+    block_holds(alloc, &block, line) && block_holds(alloc, &HostileBlocks::Plain(block), line)
 }
 
 #[test]
 fn blocks_tell_what_they_are(rt: HostRuntime) -> Result<(), Fail> {
-    let alloc = rt.alloc();
     let blocks = [
         Blocks::Box,
         Blocks::Sbox,
@@ -162,19 +184,16 @@ fn blocks_tell_what_they_are(rt: HostRuntime) -> Result<(), Fail> {
         Blocks::Glob,
     ];
     for (line, block) in BLOCKS.lines().zip(blocks) {
-        let is_told = block_holds(alloc, &block, line)?;
-        let is_hostile = block_holds(alloc, &HostileBlocks::Plain(block), line)?;
-        holds(is_told & is_hostile, line)?;
+        holds(plain_block_holds(rt.alloc(), block, line), line)?;
     }
     Ok(())
 }
 
 #[test]
 fn blocks_of_the_library_tell_what_they_are(rt: HostRuntime) -> Result<(), Fail> {
-    let alloc = rt.alloc();
     let blocks = [LibraryBlocks::If, LibraryBlocks::For, LibraryBlocks::Raw];
     for (line, block) in LIBRARY.lines().zip(blocks) {
-        holds(block_holds(alloc, &block, line)?, line)?;
+        holds(block_holds(rt.alloc(), &block, line), line)?;
     }
     Ok(())
 }

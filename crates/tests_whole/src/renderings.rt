@@ -1,10 +1,9 @@
 //! The calls that render a template, each over a runtime of its own, of any type.
-use crate::pages::is_told;
+use crate::pages::{has_error, is_told};
 use liquid_core::runtime::{ChainedScopes, FlatScopes, Renderable, Runtime, Scopes, Template};
 use liquid_core::{Error, Filter, PartialStore, TextSink};
 use std::alloc::Global;
-use std::test::Fail;
-use tests_lines::Row;
+use tests_lines::{Row, is_text};
 
 /// A call that renders a template.
 #[derive(Clone, Copy)]
@@ -19,20 +18,13 @@ pub(crate) enum Rendering {
     Flat,
 }
 
-pub(crate) const RENDERINGS: [Rendering; 4] = [
-    Rendering::To,
-    Rendering::Whole,
-    Rendering::Chained,
-    Rendering::Flat,
-];
-
 /// Returns `true` if a template has a row's result by `render_to`.
 fn is_rendered_to<X, T, B, R>(
     alloc: Global,
     row: &Row,
     page: &Template<X, T, B>,
     mut runtime: R,
-) -> Result<bool, Fail>
+) -> bool
 where
     X: Filter,
     T: Renderable<()>,
@@ -46,10 +38,10 @@ where
 }
 
 /// Returns `true` if a call returned what a row says, or the row's error.
-fn is_returned(alloc: Global, row: &Row, answer: &Result<String, Error>) -> Result<bool, Fail> {
+fn is_returned(alloc: Global, row: &Row, answer: Result<String, Error>) -> bool {
     match answer {
-        Ok(text) => Ok((text.as_str() == row.written()) & row.error().is_empty()),
-        Err(error) => Ok(error.to_string(alloc)?.as_str() == row.error()),
+        Ok(text) => text.as_str() == row.written() && row.error().is_empty(),
+        Err(error) => is_text(error.to_string(alloc), row.error()),
     }
 }
 
@@ -59,7 +51,7 @@ fn is_rendered_whole<X, T, B, R>(
     row: &Row,
     page: &Template<X, T, B>,
     mut runtime: R,
-) -> Result<bool, Fail>
+) -> bool
 where
     X: Filter,
     T: Renderable<()>,
@@ -67,8 +59,7 @@ where
     R: Runtime<Register = ()> + Drop,
     R::Store: PartialStore<X, T, B>,
 {
-    let answer = page.render(alloc, &mut runtime);
-    is_returned(alloc, row, &answer)
+    is_returned(alloc, row, page.render(alloc, &mut runtime))
 }
 
 /// Returns `true` if a template has a row's result by `render_in` over scopes of one form, which leaves no frame open.
@@ -77,7 +68,7 @@ fn is_rendered_in<S, X, T, B>(
     row: &Row,
     page: &Template<X, T, B>,
     base: S::Base,
-) -> Result<bool, Fail>
+) -> bool
 where
     S: Scopes<Register = ()>,
     S::Base: Drop,
@@ -91,7 +82,7 @@ where
     let answer = page.render_in(alloc, &mut sink, &mut scopes);
     let frames = scopes.frames();
     drop(scopes.into_base());
-    Ok((frames == 0) & is_told(alloc, row, &sink, &answer)?)
+    frames == 0 && is_told(alloc, row, &sink, &answer)
 }
 
 /// Returns `true` if a template has a row's result by one of the calls that render it.
@@ -101,7 +92,7 @@ pub(crate) fn is_rendered<X, T, B, R>(
     page: &Template<X, T, B>,
     rendering: Rendering,
     runtime: R,
-) -> Result<bool, Fail>
+) -> bool
 where
     X: Filter,
     T: Renderable<()>,
@@ -119,21 +110,24 @@ where
     }
 }
 
-/// Returns what a sink took, and after it the text of the error.
-fn with_error(alloc: Global, sink: TextSink, answer: Result<(), Error>) -> Result<String, Fail> {
-    let mut all = sink.into_string()?;
-    if let Err(error) = answer {
-        all.push_str(error.to_string(alloc)?.as_str())?;
+/// Returns `true` if a text is what a sink took, and after it the text of the error if there is one.
+fn is_whole(alloc: Global, sink: &TextSink, answer: &Result<(), Error>, wanted: &str) -> bool {
+    let taken = sink.as_bytes().len();
+    match (wanted.get(..taken), wanted.get(taken..)) {
+        (Some(first), Some(rest)) => {
+            sink.as_bytes() == first.as_bytes() && has_error(alloc, answer, rest)
+        }
+        _ => false,
     }
-    Ok(all)
 }
 
-/// Returns what a template writes over a runtime, and after it the text of its error.
-pub(crate) fn rendered<X, T, B, R>(
+/// Returns `true` if a template writes a text over a runtime, with the text of its error after it.
+pub(crate) fn writes<X, T, B, R>(
     alloc: Global,
     page: &Template<X, T, B>,
     runtime: &mut R,
-) -> Result<String, Fail>
+    wanted: &str,
+) -> bool
 where
     X: Filter,
     R: Runtime,
@@ -143,5 +137,5 @@ where
 {
     let mut sink = TextSink::new(alloc);
     let answer = page.render_to(alloc, &mut sink, runtime);
-    with_error(alloc, sink, answer)
+    is_whole(alloc, &sink, &answer, wanted)
 }

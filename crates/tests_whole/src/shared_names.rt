@@ -1,5 +1,5 @@
 //! Names that have two meanings: which of them is tried first.
-use crate::languages::{HostileLanguage, hostile_table_holds};
+use crate::languages::{HostileLanguage, hostile_table_holds, registry_of};
 use bench::block_plugins::{Blocks, HostileBlocks};
 use bench::tag_plugins::{HostileTags, Tags};
 use liquid_core::parser::Language;
@@ -17,37 +17,29 @@ const ROWS: &str = r#"{"template": "{% box g 1 %}{{ g }}", "written": "1"}
 {"template": "{% early %}a{% mid %}b", "written": "ab"}
 {"template": "{% swap %}a{% early %}b{% mid %}c{% mid %}d{% endswap %}", "written": "dabc"}"#;
 
-/// Returns tags of which `box` is also a block, and `endbox` the end of `b`.
-fn tags(alloc: Global) -> Result<PluginRegistry<HostileTags>, AllocError> {
-    let mut tags = PluginRegistry::new(alloc);
-    tags.register("box", HostileTags::Plain(Tags::Set))?;
-    tags.register("endbox", HostileTags::Spin)?;
-    Ok(tags)
-}
-
-/// Returns blocks of which `box` is also a tag, and `mid` is the end of `early` and a divider.
-fn blocks(alloc: Global) -> Result<PluginRegistry<HostileBlocks>, AllocError> {
-    let mut blocks = PluginRegistry::new(alloc);
-    blocks.register("box", HostileBlocks::Plain(Blocks::Box))?;
-    blocks.register("b", HostileBlocks::Odd)?;
-    blocks.register("swap", HostileBlocks::Plain(Blocks::Swap))?;
-    blocks.register("early", HostileBlocks::Early)?;
-    Ok(blocks)
-}
-
 /// Returns a language in which names mean two things: `box` is a tag and a block, `endbox` is the end of `b` and a tag,
 /// and `mid` is the end of `early` and a divider.
 fn shared_names(alloc: Global) -> Result<HostileLanguage, AllocError> {
-    let tags = tags(alloc)?;
+    let tags = [
+        ("box", HostileTags::Plain(Tags::Set)),
+        ("endbox", HostileTags::Spin),
+    ];
+    let blocks = [
+        ("box", HostileBlocks::Plain(Blocks::Box)),
+        ("b", HostileBlocks::Odd),
+        ("swap", HostileBlocks::Plain(Blocks::Swap)),
+        ("early", HostileBlocks::Early),
+    ];
+    let tags = registry_of(alloc, &tags)?;
     Ok(Language {
         filters: PluginRegistry::new(alloc),
         tags,
-        blocks: blocks(alloc)?,
+        blocks: registry_of(alloc, &blocks)?,
     })
 }
 
 #[test]
 fn the_first_of_two_meanings_is_taken(rt: HostRuntime) -> Result<(), Fail> {
     let alloc = rt.alloc();
-    hostile_table_holds(alloc, (ROWS, 6), shared_names(alloc)?)
+    hostile_table_holds(alloc, (ROWS, 6), shared_names(alloc))
 }

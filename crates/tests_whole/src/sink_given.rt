@@ -1,14 +1,15 @@
 //! The rows, and the runtime that they are rendered over.
+use crate::given::{is_added, text_at};
 use crate::pages::{Page, has_error};
 use bench::partial::OnePartial;
 use liquid_core::Error;
 use liquid_core::model::{Object, Value, ValueRender};
 use liquid_core::parser::{Language, ParseBlock, ParseFilter, ParseTag, parse};
 use liquid_core::runtime::{BuiltRuntime, Runtime, RuntimeBuilder, Template};
-use std::alloc::{AllocError, Global};
+use serde_json::Value as Json;
+use std::alloc::Global;
 use std::rc::Rc;
-use std::test::Fail;
-use tests_lines::Line;
+use tests_lines::{Line, is_text};
 
 /// A store of one partial in a language.
 type Store<F, T, B> = OnePartial<
@@ -33,97 +34,151 @@ pub(crate) const ROWS: &str = r#"["Hello", "Hello", "", [[0, "-"]]]
 ["{% box %}{{ 5 | fail }}{% endbox %}", "[", "liquid: bad\nfrom: Filter error\n  with:\n    filter=fail\n    input=5\n", [[0, "-"]]]
 ["a{% box %}b{% brk %}{% endbox %}c", "a[b]", "", [[0, "-"]]]"#;
 
-/// Returns the template of a text in a language.
+/// Returns the template of a text in a language, or `None` if it has an error.
 pub(crate) fn page<F, T, B>(
     alloc: Global,
     language: &Language<F, T, B>,
     text: &str,
-) -> Result<Page<F, T, B>, Fail>
+) -> Option<Page<F, T, B>>
 where
     F: ParseFilter + Drop,
     T: ParseTag<F> + Drop,
     B: ParseBlock<F> + Drop,
 {
-    Ok(Template::new(parse(alloc, text, language)?))
+    match parse(alloc, text, language) {
+        Ok(nodes) => Some(Template::new(nodes)),
+        Err(_) => None,
+    }
 }
 
-/// Returns what the templates see: an empty text, and nil.
-pub(crate) fn names(alloc: Global) -> Result<Object, AllocError> {
+/// Returns the template of a row in a language.
+pub(crate) fn page_of<F, T, B>(
+    alloc: Global,
+    language: &Language<F, T, B>,
+    row: &Line,
+) -> Option<Page<F, T, B>>
+where
+    F: ParseFilter + Drop,
+    T: ParseTag<F> + Drop,
+    B: ParseBlock<F> + Drop,
+{
+    match row.text(0) {
+        Some(text) => page(alloc, language, text),
+        None => None,
+    }
+}
+
+/// Returns what the templates see, an empty text and nil, or `None` if memory runs out.
+pub(crate) fn names(alloc: Global) -> Option<Object> {
     let mut names = Object::new(alloc);
-    let empty = Value::scalar(String::new(alloc));
-    names.insert(String::from_str(alloc, "x")?, empty)?;
-    names.insert(String::from_str(alloc, "y")?, Value::Nil)?;
-    Ok(names)
+    let are_added = is_added(alloc, &mut names, "x", Value::scalar(String::new(alloc)))
+        && is_added(alloc, &mut names, "y", Value::Nil);
+    if are_added { Some(names) } else { None }
+}
+
+/// Returns the partial `p` in a language.
+fn partial<F, T, B>(alloc: Global, language: &Language<F, T, B>) -> Option<Rc<Page<F, T, B>>>
+where
+    F: ParseFilter + Drop,
+    T: ParseTag<F> + Drop,
+    B: ParseBlock<F> + Drop,
+{
+    match page(alloc, language, "p{{ 7 }}{% set g 3 %}") {
+        Some(page) => Rc::new(alloc, page).ok(),
+        None => None,
+    }
 }
 
 /// Returns a store of the partial `p` in a language.
-fn store<F, T, B>(alloc: Global, language: &Language<F, T, B>) -> Result<Store<F, T, B>, Fail>
+fn store<F, T, B>(alloc: Global, language: &Language<F, T, B>) -> Option<Store<F, T, B>>
 where
     F: ParseFilter + Drop,
     T: ParseTag<F> + Drop,
     B: ParseBlock<F> + Drop,
 {
-    let name = String::from_str(alloc, "p")?;
-    let page = page(alloc, language, "p{{ 7 }}{% set g 3 %}")?;
-    let template = Rc::new(alloc, page)?;
-    Ok(OnePartial { name, template })
+    match String::from_str(alloc, "p")
+        .ok()
+        .zip(partial(alloc, language))
+    {
+        Some((name, template)) => Some(OnePartial { name, template }),
+        None => None,
+    }
 }
 
-/// Returns a runtime of these names and a store.
-fn built<P: Drop>(alloc: Global, names: Object, store: P) -> BuiltRuntime<(), P> {
-    RuntimeBuilder::new(alloc)
-        .set_globals(names)
-        .set_partials(store)
-        .build()
+/// Returns a runtime of names and a store.
+fn built<P: Drop>(
+    alloc: Global,
+    names: Option<Object>,
+    store: Option<P>,
+) -> Option<BuiltRuntime<(), P>> {
+    match names.zip(store) {
+        Some((names, store)) => Some(
+            RuntimeBuilder::new(alloc)
+                .set_globals(names)
+                .set_partials(store)
+                .build(),
+        ),
+        None => None,
+    }
 }
 
-/// Returns a runtime of the names of the templates with the partial `p` in a language.
+/// Returns a runtime of the names of the templates with the partial `p` in a language, or `None` if memory runs out.
 pub(crate) fn runtime<F, T, B>(
     alloc: Global,
     language: &Language<F, T, B>,
-) -> Result<BuiltRuntime<(), Store<F, T, B>>, Fail>
+) -> Option<BuiltRuntime<(), Store<F, T, B>>>
 where
     F: ParseFilter + Drop,
     T: ParseTag<F> + Drop,
     B: ParseBlock<F> + Drop,
 {
-    let names = names(alloc)?;
-    Ok(built(alloc, names, store(alloc, language)?))
+    built(alloc, names(alloc), store(alloc, language))
 }
 
-/// Returns `true` if `g` is what the row leaves after that many bytes.
-fn is_left<R: Runtime>(alloc: Global, row: &Line, bytes: usize, runtime: &R) -> Result<bool, Fail> {
-    let wanted = wanted(row, bytes)?;
-    match runtime.try_get_name("g") {
-        Some(value) => Ok(ValueRender::new(value).to_string(alloc)?.as_str() == wanted),
-        None => Ok(wanted == "-"),
+/// Returns a number of bytes, and what a step of a row says about `g` after that many.
+fn entry(step: &Json) -> Option<(u64, &str)> {
+    match step.get(0) {
+        Some(bytes) => bytes.as_u64().zip(text_at(step, 1)),
+        None => None,
     }
 }
 
 /// Returns what the row says about `g` after that many bytes: its last entry for as many bytes or fewer.
-fn wanted(row: &Line, bytes: usize) -> Result<&str, Fail> {
-    let mut wanted = "";
+fn wanted(row: &Line, bytes: u64) -> Option<&str> {
+    let mut wanted = None;
     for step in row.list(3)? {
-        let from = match step.get(0) {
-            Some(from) => from.as_u64().unwrap_or(0),
-            None => 0,
-        };
-        if usize::try_from(from)? <= bytes {
-            wanted = match step.get(1) {
-                Some(text) => text.as_str().unwrap_or(""),
-                None => "",
-            };
+        let (from, text) = entry(step)?;
+        if from <= bytes {
+            wanted = Some(text);
         }
     }
-    Ok(wanted)
+    wanted
 }
 
-/// Returns the error of a row whose sink has no fault in its first bytes: the sink's if it fails.
-fn refusal(row: &Line, bytes: usize) -> Result<&str, Fail> {
-    if bytes < row.text(1)?.len() {
-        Ok("liquid: Failed to render\n")
+/// Returns `true` if `g` is what the row leaves after that many bytes.
+fn is_left<R: Runtime>(alloc: Global, row: &Line, bytes: usize, runtime: &R) -> bool {
+    match (wanted(row, bytes as u64), runtime.try_get_name("g")) {
+        (Some(wanted), Some(value)) => is_text(ValueRender::new(value).to_string(alloc), wanted),
+        (wanted, None) => wanted == Some("-"),
+        _ => false,
+    }
+}
+
+/// Returns `true` if a call has the error of a row whose sink has no fault in its first bytes: the sink's if it fails.
+fn is_refused(
+    alloc: Global,
+    row: &Line,
+    text: &str,
+    bytes: usize,
+    answer: &Result<(), Error>,
+) -> bool {
+    if bytes < text.len() {
+        has_error(alloc, answer, "liquid: Failed to render\n")
     } else {
-        row.text(2)
+        match row.text(2) {
+            Some(error) => has_error(alloc, answer, error),
+            None => false,
+        }
     }
 }
 
@@ -136,9 +191,13 @@ pub(crate) fn is_beginning<R: Runtime>(
     taken: &[u8],
     answer: &Result<(), Error>,
     runtime: &R,
-) -> Result<bool, Fail> {
-    let has_error = has_error(alloc, answer, refusal(row, bytes)?)?;
-    let is_left = is_left(alloc, row, bytes, runtime)?;
-    let is_taken = row.text(1)?.as_bytes().get(..bytes) == Some(taken);
-    Ok(has_error & is_left & is_taken)
+) -> bool {
+    match row.text(1) {
+        Some(text) => {
+            text.as_bytes().get(..bytes) == Some(taken)
+                && is_refused(alloc, row, text, bytes, answer)
+                && is_left(alloc, row, bytes, runtime)
+        }
+        None => false,
+    }
 }

@@ -1,5 +1,5 @@
 //! Sinks: texts of any length through a writer, and the faults of sinks.
-use crate::given::{no_names, runtime_of};
+use crate::given::{count_at, no_names, runtime_of};
 use crate::pages::has_error;
 use bench::dripping::Dripping;
 use bench::languages::language;
@@ -9,7 +9,7 @@ use liquid_core::{Error, Sink, SinkFault, TextSink, WriterSink, render_source};
 use std::alloc::{AllocError, Global};
 use std::io::{self, BufWriter, Write};
 use std::test::Fail;
-use tests_lines::{Line, holds, rows_hold, same};
+use tests_lines::{Line, holds, is_text, rows_hold};
 
 /// Takes at most a thousand bytes a write.
 #[derive(Drop)]
@@ -44,61 +44,103 @@ fn twice(alloc: Global, text: &str) -> Result<String, AllocError> {
     format!(in alloc; "{text}{{{{ name }}}}{text}")
 }
 
-/// Renders to a writer the text, a name and the text again.
-fn render_twice<W: Write>(alloc: Global, text: &str, writer: &mut W) -> Result<(), Fail> {
-    let source = twice(alloc, text)?;
-    let mut runtime = runtime_of(alloc, r#"{"name": "World"}"#)?;
-    let mut sink = WriterSink::new(writer);
-    let answer = render(alloc, source.as_str(), &mut runtime, &mut sink);
-    let _ = sink.into_inner();
-    drop(runtime);
-    Ok(answer?)
+/// Returns `true` if a writer takes what a text writes over a runtime.
+fn takes<R, W>(alloc: Global, text: &str, runtime: Option<R>, writer: &mut W) -> bool
+where
+    R: Runtime<Register = (), Store = ()> + Drop,
+    W: Write,
+{
+    match runtime {
+        Some(mut runtime) => {
+            let mut sink = WriterSink::new(writer);
+            let answer = render(alloc, text, &mut runtime, &mut sink);
+            let _ = sink.into_inner();
+            answer.is_ok()
+        }
+        None => false,
+    }
+}
+
+/// Returns `true` if a writer takes a text, a name's value and the text again.
+fn takes_twice<W: Write>(alloc: Global, text: &str, writer: &mut W) -> bool {
+    match twice(alloc, text) {
+        Ok(source) => {
+            let runtime = runtime_of(alloc, r#"{"name": "World"}"#);
+            takes(alloc, source.as_str(), runtime, writer)
+        }
+        Err(_) => false,
+    }
 }
 
 /// Returns `true` if a list takes a text, a name's value and the text again, after what it has.
-fn are_taken_by_a_list(alloc: Global, text: &str, wanted: &str) -> Result<bool, Fail> {
-    let mut bytes = b"> ".to_vec(alloc)?;
-    render_twice(alloc, text, &mut bytes)?;
-    let quoted = format!(in alloc; "> {wanted}")?;
-    Ok(bytes.as_slice() == quoted.as_bytes())
+fn are_taken_by_a_list(alloc: Global, text: &str, wanted: &str) -> bool {
+    match b"> ".to_vec(alloc) {
+        Ok(mut bytes) => {
+            takes_twice(alloc, text, &mut bytes)
+                && bytes.as_slice().strip_prefix(b"> ") == Some(wanted.as_bytes())
+        }
+        Err(_) => false,
+    }
 }
 
 /// Returns `true` if a writer with a buffer takes them.
-fn are_taken_by_a_buffer(alloc: Global, text: &str, wanted: &str) -> Result<bool, Fail> {
-    let mut buffered = BufWriter::new(alloc, Vec::new(alloc))?;
-    render_twice(alloc, text, &mut buffered)?;
-    buffered.flush()?;
-    Ok(buffered.get_ref().as_slice() == wanted.as_bytes())
+fn are_taken_by_a_buffer(alloc: Global, text: &str, wanted: &str) -> bool {
+    match BufWriter::new(alloc, Vec::new(alloc)) {
+        Ok(mut buffered) => {
+            takes_twice(alloc, text, &mut buffered)
+                && buffered.flush().is_ok()
+                && buffered.get_ref().as_slice() == wanted.as_bytes()
+        }
+        Err(_) => false,
+    }
 }
 
 /// Returns `true` if a writer takes them that takes a part each time.
-fn are_taken_by_parts(alloc: Global, text: &str, wanted: &str) -> Result<bool, Fail> {
+fn are_taken_by_parts(alloc: Global, text: &str, wanted: &str) -> bool {
     let mut narrow = Narrow {
         bytes: Vec::new(alloc),
     };
-    render_twice(alloc, text, &mut narrow)?;
-    Ok(narrow.bytes.as_slice() == wanted.as_bytes())
+    takes_twice(alloc, text, &mut narrow) && narrow.bytes.as_slice() == wanted.as_bytes()
 }
 
 /// Lengths of texts, a row each.
 const LENGTHS: &str =
     "[0]\n[1]\n[999]\n[1000]\n[1001]\n[4095]\n[4096]\n[4097]\n[8191]\n[8192]\n[8193]\n[100000]";
 
-/// Returns `true` if each writer takes a text of the row's length, a name's value and the text again.
-fn are_taken(alloc: Global, row: &Line) -> Result<bool, Fail> {
-    let length = usize::try_from(row.number(0)?)?;
-    let text = "0123456789abc\n".repeat(alloc, length / 14 + 1)?;
-    let text = text.as_str().get(..length).unwrap_or("");
-    let wanted = format!(in alloc; "{text}World{text}")?;
-    let by_a_list = are_taken_by_a_list(alloc, text, wanted.as_str())?;
-    let by_a_buffer = are_taken_by_a_buffer(alloc, text, wanted.as_str())?;
-    let by_parts = are_taken_by_parts(alloc, text, wanted.as_str())?;
-    Ok(by_a_list & by_a_buffer & by_parts)
+/// Returns `true` if each writer takes a text, a name's value and the text again.
+fn are_taken(alloc: Global, text: &str) -> bool {
+    match format!(in alloc; "{text}World{text}") {
+        Ok(wanted) => {
+            are_taken_by_a_list(alloc, text, wanted.as_str())
+                && are_taken_by_a_buffer(alloc, text, wanted.as_str())
+                && are_taken_by_parts(alloc, text, wanted.as_str())
+        }
+        Err(_) => false,
+    }
+}
+
+/// Returns `true` if each writer takes the beginning of a text, of that length, in that way.
+fn beginning_is_taken(alloc: Global, text: &str, length: usize) -> bool {
+    match text.get(..length) {
+        Some(text) => are_taken(alloc, text),
+        None => false,
+    }
+}
+
+/// Returns `true` if each writer takes a text of the row's length in that way.
+fn length_is_taken(alloc: Global, row: &Line) -> bool {
+    match count_at(row, 0) {
+        Some(length) => match "0123456789abc\n".repeat(alloc, length as usize / 14 + 1) {
+            Ok(text) => beginning_is_taken(alloc, text.as_str(), length as usize),
+            Err(_) => false,
+        },
+        None => false,
+    }
 }
 
 #[test]
 fn a_writer_takes_texts_of_any_length(rt: HostRuntime) -> Result<(), Fail> {
-    rows_hold(rt.alloc(), LENGTHS, are_taken)
+    rows_hold(rt.alloc(), LENGTHS, length_is_taken)
 }
 
 #[test]
@@ -107,35 +149,51 @@ fn a_writer_that_takes_nothing_fails(rt: HostRuntime) -> Result<(), Fail> {
     let mut room = [0; 2];
     let mut writer = &mut room[..];
     let mut sink = WriterSink::new(&mut writer);
-    holds(sink.put(b"ab!") == Ok(2), "there is room for two bytes")?;
     holds(
-        sink.put(b"!") == Err(SinkFault::Failed),
-        "there is no room left",
+        sink.put(b"ab!") == Ok(2) && sink.put(b"!") == Err(SinkFault::Failed),
+        "there is room for two bytes",
     )?;
-    same(SinkFault::Failed.to_string(alloc)?.as_str(), "sink failed")?;
-    same(
-        SinkFault::Memory.to_string(alloc)?.as_str(),
-        "out of memory",
+    holds(
+        is_text(SinkFault::Failed.to_string(alloc), "sink failed")
+            && is_text(SinkFault::Memory.to_string(alloc), "out of memory"),
+        "the faults have texts",
     )
 }
 
 #[test]
 fn bytes_that_are_no_text_are_refused(rt: HostRuntime) -> Result<(), Fail> {
     let mut sink = TextSink::new(rt.alloc());
-    holds(sink.put(b"\xff") == Ok(1), "any byte is taken")?;
-    holds(sink.as_bytes() == b"\xff".as_slice(), "the byte is kept")?;
-    holds(sink.into_string().is_err(), "the byte is no text")
+    holds(
+        sink.put(b"\xff") == Ok(1)
+            && sink.as_bytes() == b"\xff".as_slice()
+            && sink.into_string().is_err(),
+        "a byte is taken and kept that is no text",
+    )
+}
+
+/// Returns `true` if a sink has taken just what a row says, and the call has the row's error.
+fn is_drip(alloc: Global, drip: &Line, sink: &Dripping, answer: &Result<(), Error>) -> bool {
+    match drip.text(2).zip(drip.text(3)) {
+        Some((taken, error)) => {
+            sink.as_bytes() == taken.as_bytes() && has_error(alloc, answer, error)
+        }
+        None => false,
+    }
 }
 
 /// Returns `true` if the sink takes just that of the template, and the call has this error.
-fn drips<R>(alloc: Global, drip: &Line, runtime: &mut R) -> Result<bool, Fail>
+fn drips<R>(alloc: Global, drip: &Line, runtime: &mut R) -> bool
 where
     R: Runtime<Register = (), Store = ()>,
 {
-    let mut sink = Dripping::new(alloc, u64::try_from(drip.number(0)?)?);
-    let answer = render(alloc, drip.text(1)?, runtime, &mut sink);
-    let has_error = has_error(alloc, &answer, drip.text(3)?)?;
-    Ok(has_error & (sink.as_bytes() == drip.text(2)?.as_bytes()))
+    match count_at(drip, 0).zip(drip.text(1)) {
+        Some((puts, text)) => {
+            let mut sink = Dripping::new(alloc, puts);
+            let answer = render(alloc, text, runtime, &mut sink);
+            is_drip(alloc, drip, &sink, &answer)
+        }
+        None => false,
+    }
 }
 
 /// How many puts of a byte a sink takes, the template, what the sink took of it, and the error. An empty value makes no
@@ -150,11 +208,11 @@ const DRIPS: &str = r#"[0, "Hello", "", "liquid: Failed to render\n"]
 [2, "{% box %}ab{% endbox %}", "[a", "liquid: Failed to render\n"]"#;
 
 /// Returns `true` if a row is true over names whose values are empty.
-fn keeps_the_beginning(alloc: Global, drip: &Line) -> Result<bool, Fail> {
-    let mut runtime = runtime_of(alloc, r#"{"x": "", "y": null}"#)?;
-    let drips = drips(alloc, drip, &mut runtime);
-    drop(runtime);
-    drips
+fn keeps_the_beginning(alloc: Global, drip: &Line) -> bool {
+    match runtime_of(alloc, r#"{"x": "", "y": null}"#) {
+        Some(mut runtime) => drips(alloc, drip, &mut runtime),
+        None => false,
+    }
 }
 
 #[test]
@@ -162,33 +220,35 @@ fn a_sink_that_fails_keeps_the_beginning(rt: HostRuntime) -> Result<(), Fail> {
     rows_hold(rt.alloc(), DRIPS, keeps_the_beginning)
 }
 
-/// Fails for a name whose value has another text.
-fn is_text(alloc: Global, value: &ValueCow<'_>, wanted: &str) -> Result<(), Fail> {
-    same(value.as_view().to_kstr(alloc)?.as_str(), wanted)
+/// A template that assigns a name before its first byte and before its second, of which a sink takes the first.
+const ASSIGNED: &str = r#"[1, "{% set g 1 %}ab{% set g 2 %}", "a", "liquid: Failed to render\n"]"#;
+
+/// Returns `true` if a name has a value with this text.
+fn is_value(alloc: Global, answer: Result<ValueCow<'_>, Error>, wanted: &str) -> bool {
+    match answer {
+        Ok(value) => match value.as_view().to_kstr(alloc) {
+            Ok(text) => text.as_str() == wanted,
+            Err(_) => false,
+        },
+        Err(_) => false,
+    }
 }
 
-/// Fails for a sink that does not take the first byte of a template, and for a runtime without the name that the
-/// template assigned before the second.
-fn keeps_the_first<R>(alloc: Global, mut runtime: R) -> Result<(), Fail>
+/// Returns `true` if a sink takes the first byte of that template, and the name is then as it was assigned before.
+fn keeps_the_first<R>(alloc: Global, drip: &Line, mut runtime: R) -> bool
 where
     R: Runtime<Register = (), Store = ()> + Drop,
 {
-    let drip = Line::of(
-        alloc,
-        r#"[1, "{% set g 1 %}ab{% set g 2 %}", "a", "liquid: Failed to render\n"]"#,
-    )?;
-    holds(
-        drips(alloc, &drip, &mut runtime)?,
-        "the sink has the first byte",
-    )?;
-    match runtime.get(alloc, &[ScalarCow::from("g")]) {
-        Ok(value) => is_text(alloc, &value, "1"),
-        Err(_) => Err(Fail::from("the name has no value")),
-    }
+    drips(alloc, drip, &mut runtime)
+        && is_value(alloc, runtime.get(alloc, &[ScalarCow::from("g")]), "1")
+}
+
+/// Returns `true` if that is so over a runtime without names.
+fn keeps_what_was_assigned(alloc: Global, drip: &Line) -> bool {
+    keeps_the_first(alloc, drip, no_names(alloc))
 }
 
 #[test]
 fn a_sink_that_fails_keeps_what_was_assigned(rt: HostRuntime) -> Result<(), Fail> {
-    let alloc = rt.alloc();
-    keeps_the_first(alloc, no_names(alloc))
+    rows_hold(rt.alloc(), ASSIGNED, keeps_what_was_assigned)
 }

@@ -1,30 +1,31 @@
 //! Single tags: their names, and the copies of the cursor over their tokens.
+use crate::given::count_at;
 use liquid_core::parser::{Tag, TagTokenIter};
-use std::alloc::{AllocError, Global};
+use std::alloc::Global;
 use std::test::Fail;
-use tests_lines::{Line, rows_hold};
+use tests_lines::{Line, is_text, rows_hold};
 
-/// Returns the texts of the tokens of a cursor, joined by ` / `.
-fn joined(alloc: Global, tokens: TagTokenIter<'_>, count: usize) -> Result<String, AllocError> {
-    let mut tokens = tokens;
-    let mut texts = Vec::new(alloc);
+/// Returns `true` if the tokens of a cursor, joined by ` / `, are a text.
+fn are_joined(alloc: Global, mut tokens: TagTokenIter<'_>, shown: &str, count: usize) -> bool {
+    let mut texts: Vec<&str> = Vec::new(alloc);
     for _ in 0..count {
         if let Some(token) = tokens.next() {
-            texts.push(token.as_str())?;
+            if texts.push(token.as_str()).is_err() {
+                return false;
+            }
         }
     }
-    texts.join(alloc, " / ")
+    is_text(texts.join(alloc, " / "), shown)
 }
 
 /// Returns `true` if each cursor of a tag returns the tokens of a text from the first one on, whatever another one has
 /// returned.
-fn has_tokens(alloc: Global, tag: Tag<'_>, shown: &str, count: usize) -> Result<bool, AllocError> {
+fn has_tokens(alloc: Global, tag: Tag<'_>, shown: &str, count: usize) -> bool {
     let mut moved = tag.tokens();
     let _ = moved.next();
-    let first = joined(alloc, tag.tokens(), count)?;
-    let again = joined(alloc, tag.tokens(), count)?;
-    let last = joined(alloc, tag.into_tokens(), count)?;
-    Ok(first.as_str() == shown && again.as_str() == shown && last.as_str() == shown)
+    are_joined(alloc, tag.tokens(), shown, count)
+        && are_joined(alloc, tag.tokens(), shown, count)
+        && are_joined(alloc, tag.into_tokens(), shown, count)
 }
 
 /// Returns the number of tokens after those that were taken from a copy of a tag's cursor.
@@ -43,13 +44,27 @@ fn left_after(tag: &Tag<'_>, taken: i64, count: usize) -> usize {
 }
 
 /// Returns `true` if a tag has the name, the text and the tokens of a row.
-fn holds(alloc: Global, row: &Line) -> Result<bool, Fail> {
-    let text = row.text(0)?;
-    let tag = Tag::new(alloc, text)?;
-    let is_named = tag.name() == row.text(1)? && tag.as_str() == text;
-    let left = left_after(&tag, row.number(3)?, text.len());
-    let is_left = i64::try_from(left)? == row.number(4)?;
-    Ok(is_named && is_left && has_tokens(alloc, tag, row.text(2)?, text.len())?)
+fn is_told(alloc: Global, row: &Line, tag: Tag<'_>, text: &str) -> bool {
+    match row.text(2).zip(row.number(3)) {
+        Some((shown, taken)) => {
+            Some(tag.name()) == row.text(1)
+                && tag.as_str() == text
+                && Some(left_after(&tag, taken, text.len()) as u64) == count_at(row, 4)
+                && has_tokens(alloc, tag, shown, text.len())
+        }
+        None => false,
+    }
+}
+
+/// Returns `true` if the tag of a row is as the row says.
+fn holds(alloc: Global, row: &Line) -> bool {
+    match row.text(0) {
+        Some(text) => match Tag::new(alloc, text) {
+            Ok(tag) => is_told(alloc, row, tag, text),
+            Err(_) => false,
+        },
+        None => false,
+    }
 }
 
 /// A tag, its name, its tokens, the number of tokens that are taken, and how many are then left.

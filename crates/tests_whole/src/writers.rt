@@ -1,9 +1,7 @@
 //! Writers that count their calls, and fail once at any of them.
-use crate::pages::Page;
-use crate::sink_calls::{CALLS, Call, rendered};
-use crate::sink_given::{ROWS, is_beginning, page, runtime};
+use crate::sink_calls::{Call, Failing, all_hold, rendered};
+use crate::sink_given::is_beginning;
 use bench::languages::language;
-use liquid_core::parser::{Language, ParseBlock, ParseFilter, ParseTag};
 use liquid_core::runtime::{Runtime, Template};
 use liquid_core::{Discreet, Filter, PartialStore, Sink, SinkFault, WriterSink};
 use std::alloc::Global;
@@ -66,134 +64,67 @@ impl Write for Counting {
     }
 }
 
-/// Returns how often a writer of a row is called: not once more after its fault.
-fn asked(row: &Line, bytes: usize) -> Result<usize, Fail> {
-    Ok(row.text(1)?.len().min(bytes.saturating_add(1)))
-}
-
-/// Returns `true` if a call over a writer that fails after that many bytes leaves just those of the row's text, has the
-/// error that the row and the sink give, and leaves what was assigned up to there, and if the writer is called once for
-/// each byte.
-fn writes<X, T, B, R>(
-    alloc: Global,
-    row: &Line,
-    page: &Template<X, T, B>,
-    mut writer: Counting,
-    call: Call,
-    around: R,
-) -> Result<bool, Fail>
-where
-    X: Filter,
-    T: Discreet<()>,
-    B: Discreet<()>,
-    R: Runtime<Register = ()> + Drop,
-    R::Store: PartialStore<X, T, B>,
-{
-    let bytes = writer.failing;
-    let mut sink = WriterSink::new(&mut writer);
-    let (answer, around) = rendered(alloc, page, &mut sink, call, around)?;
-    let _ = sink.into_inner();
-    let taken = writer.bytes.as_slice();
-    let is_beginning = is_beginning(alloc, row, bytes, taken, &answer, &around)?;
-    Ok(is_beginning & (writer.calls == asked(row, bytes)?))
-}
-
-/// Returns how many calls there are over a writer of a row with that fault. Fails for one that is not as it should be.
-fn calls<F, T, B>(
-    alloc: Global,
-    language: &Language<F, T, B>,
-    row: &Line,
-    page: &Page<F, T, B>,
-    (bytes, fault): (usize, Fault),
-) -> Result<usize, Fail>
-where
-    F: ParseFilter + Drop,
-    T: ParseTag<F> + Drop,
-    B: ParseBlock<F> + Drop,
-    T::Node: Discreet<()>,
-    B::Node: Discreet<()>,
-{
-    let mut count = 0usize;
-    for call in CALLS {
-        let around = runtime(alloc, language)?;
-        let writer = Counting::new(alloc, bytes, fault);
-        holds(
-            writes(alloc, row, page, writer, call, around)?,
-            "a row holds over a writer",
-        )?;
-        count = count.saturating_add(1);
+/// Returns `true` if a writer of a row is called once for each byte that it takes, and once more for its fault.
+fn is_asked(writer: &Counting, row: &Line) -> bool {
+    match row.text(1) {
+        Some(text) => writer.calls == text.len().min(writer.failing.saturating_add(1)),
+        None => false,
     }
-    Ok(count)
 }
 
-/// Returns how many writers of a row were tried, over all calls. Fails for one that is not as it should be.
-fn writers<F, T, B>(
-    alloc: Global,
-    language: &Language<F, T, B>,
-    row: &Line,
-    fault: Fault,
-) -> Result<usize, Fail>
-where
-    F: ParseFilter + Drop,
-    T: ParseTag<F> + Drop,
-    B: ParseBlock<F> + Drop,
-    T::Node: Discreet<()>,
-    B::Node: Discreet<()>,
-{
-    let page = page(alloc, language, row.text(0)?)?;
-    let mut count = 0usize;
-    for bytes in 0..row.text(1)?.len().saturating_add(1) {
-        let calls = calls(alloc, language, row, &page, (bytes, fault))?;
-        count = count.saturating_add(calls);
+impl Failing for Fault {
+    /// Returns `true` if that is so, and the writer is not called after its fault.
+    fn holds<X, T, B, R>(
+        self,
+        alloc: Global,
+        row: &Line,
+        page: &Template<X, T, B>,
+        bytes: usize,
+        call: Call,
+        around: R,
+    ) -> bool
+    where
+        X: Filter,
+        T: Discreet<()>,
+        B: Discreet<()>,
+        R: Runtime<Register = ()> + Drop,
+        R::Store: PartialStore<X, T, B>,
+    {
+        let mut writer = Counting::new(alloc, bytes, self);
+        let mut sink = WriterSink::new(&mut writer);
+        let (answer, around) = rendered(alloc, page, &mut sink, call, around);
+        let _ = sink.into_inner();
+        is_asked(&writer, row)
+            && is_beginning(alloc, row, bytes, writer.bytes.as_slice(), &answer, &around)
     }
-    Ok(count)
-}
-
-/// Returns how many writers of all rows were tried.
-fn all_writers<F, T, B>(alloc: Global, language: &Language<F, T, B>) -> Result<usize, Fail>
-where
-    F: ParseFilter + Drop,
-    T: ParseTag<F> + Drop,
-    B: ParseBlock<F> + Drop,
-    T::Node: Discreet<()>,
-    B::Node: Discreet<()>,
-{
-    let mut all = 0usize;
-    for line in ROWS.lines() {
-        let row = Line::of(alloc, line)?;
-        for fault in FAULTS {
-            all = all.saturating_add(writers(alloc, language, &row, fault)?);
-        }
-    }
-    Ok(all)
 }
 
 #[test]
 fn a_writer_is_not_asked_after_its_fault(rt: HostRuntime) -> Result<(), Fail> {
-    let alloc = rt.alloc();
-    let all = all_writers(alloc, &language(alloc)?)?;
-    holds(all == (41 + 13) * 4 * 3, "each writer is tried")
+    let wanted = (41 + 13) * 4 * 3;
+    holds(
+        all_hold(rt.alloc(), language(rt.alloc()), &FAULTS, wanted),
+        "each writer is tried, and leaves the beginning",
+    )
 }
 
-/// Fails unless each put to a writer that fails at its second call asks the writer once.
-fn asks_once(mut writer: Counting) -> Result<(), Fail> {
+/// Returns `true` if each put to a writer that fails at its second call asks the writer once.
+fn asks_once(mut writer: Counting) -> bool {
     let mut sink = WriterSink::new(&mut writer);
-    let first = sink.put(b"abc") == Ok(1);
-    let failed = sink.put(b"bc") == Err(SinkFault::Failed);
-    let second = sink.put(b"bc") == Ok(1);
+    let is_put = sink.put(b"abc") == Ok(1)
+        && sink.put(b"bc") == Err(SinkFault::Failed)
+        && sink.put(b"bc") == Ok(1);
     let _ = sink.into_inner();
-    let is_once = (writer.calls == 3) & (writer.bytes.as_slice() == b"ab".as_slice());
-    drop(writer);
-    holds(first, "the first byte")?;
-    holds(failed, "the fault of the writer")?;
-    holds(second, "the second byte")?;
-    holds(is_once, "each put asks the writer once")
+    is_put && writer.calls == 3 && writer.bytes.as_slice() == b"ab".as_slice()
 }
 
 #[test]
 fn a_put_asks_its_writer_once(rt: HostRuntime) -> Result<(), Fail> {
-    for fault in FAULTS {
-        asks_once(Counting::new(rt.alloc(), 1, fault))?;
-    }
-    Ok(())
+    let alloc = rt.alloc();
+    holds(
+        asks_once(Counting::new(alloc, 1, Fault::Nothing))
+            && asks_once(Counting::new(alloc, 1, Fault::Interrupted))
+            && asks_once(Counting::new(alloc, 1, Fault::Gone)),
+        "each put asks the writer once",
+    )
 }
