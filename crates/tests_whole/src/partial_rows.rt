@@ -313,7 +313,7 @@ fn is_changed_in_place(alloc: Global, compiler: &mut EagerCompiler<InMemorySourc
 
 /// Returns `true` if the copy of a source has `p` alone, with the new text.
 fn is_copied(alloc: Global, source: &InMemorySource) -> bool {
-    match source.clone() {
+    match InMemorySource::clone(source) {
         Ok(copy) => has_the_new_text(alloc, &copy),
         Err(_) => false,
     }
