@@ -238,18 +238,14 @@ fn is_strictly(left: &ScalarCow<'_>, right: ScalarCow<'_>) -> bool {
     *left == right
 }
 
-/// Returns `true` if a copy of the text `k` was made, and it and the borrowed text are as others of that text.
-fn is_borrowed(
+/// Returns `true` if a copy of a borrowed text was made, and it is as that and as another text `k`.
+fn is_as_copy(
     alloc: Global,
     borrowed: &ScalarCow<'_>,
     copy: Result<ScalarCow<'_>, AllocError>,
 ) -> bool {
     match copy {
-        Ok(copy) => {
-            is_strictly(borrowed, ScalarCow::new("k"))
-                & copy.scalar_eq(borrowed)
-                & is_moved(&copy, String::from_str(alloc, "k"))
-        }
+        Ok(copy) => { copy.scalar_eq(borrowed) & is_moved(&copy, String::from_str(alloc, "k")) }
         Err(_) => false,
     }
 }
@@ -272,7 +268,7 @@ fn is_lent(alloc: Global, made: Result<String, AllocError>) -> bool {
 
 /// Returns `true` if a borrowed scalar of the text `k` and a copy of it are as others of that text.
 fn is_copied(alloc: Global, borrowed: &ScalarCow<'_>) -> bool {
-    is_borrowed(alloc, borrowed, borrowed.clone())
+    is_strictly(borrowed, ScalarCow::new("k")) && is_as_copy(alloc, borrowed, borrowed.clone())
 }
 
 #[test]
@@ -299,40 +295,45 @@ fn dates_and_date_times_are_compared(rt: HostRuntime) -> Result<(), Fail> {
     rows_hold(rt.alloc(), DATES, are_compared)
 }
 
-/// Returns `true` if a scalar has this name of its type, and this text, by itself and as its string.
-fn is_dated(alloc: Global, scalar: ScalarCow<'_>, name: &str, text: &str) -> bool {
-    (scalar.type_name() == name)
-        & is_kstr(scalar.to_kstr(alloc), text)
-        & is_text(scalar.into_string(alloc), text)
+/// Returns `true` if a scalar has this name of its type, and this text.
+fn is_named(alloc: Global, scalar: &ScalarCow<'_>, name: &str, text: &str) -> bool {
+    scalar.type_name() == name && is_kstr(scalar.to_kstr(alloc), text)
 }
 
-/// Returns a date, and the date time of the day before, at 10 of a clock that is an hour ahead.
-fn dates() -> Option<(Date, DateTime)> {
-    Some((
-        day(17)?,
-        DateTime::from_parts(day(16)?, 10, 0, 0, 0, 3600).ok()?,
-    ))
+/// Returns `true` if there is a date, with the name of its type and its text.
+fn date_has_text(alloc: Global, date: Option<Date>, text: &str) -> bool {
+    match date {
+        Some(date) => is_named(alloc, &ScalarCow::new(date), "date", text),
+        None => false,
+    }
 }
 
-/// Returns `true` if a date and a date time have their texts.
-fn dates_have_texts(alloc: Global) -> bool {
-    match dates() {
-        Some((date, moment)) => {
-            is_dated(alloc, ScalarCow::new(date), "date", "2016-02-17")
-                && is_dated(
-                    alloc,
-                    ScalarCow::new(moment),
-                    "date time",
-                    "2016-02-16 10:00:00 +0100",
-                )
-        }
+/// Returns the date time of 16 February 2016, at 10 of a clock that is an hour ahead.
+fn morning() -> Option<DateTime> {
+    DateTime::from_parts(day(16)?, 10, 0, 0, 0, 3600).ok()
+}
+
+/// Returns `true` if a scalar is of a date time, and becomes this text.
+fn is_moment_text(alloc: Global, scalar: ScalarCow<'_>, text: &str) -> bool {
+    (scalar.type_name() == "date time") & is_text(scalar.into_string(alloc), text)
+}
+
+/// Returns `true` if there is a date time, and it becomes this text.
+fn moment_has_text(alloc: Global, moment: Option<DateTime>, text: &str) -> bool {
+    match moment {
+        Some(moment) => is_moment_text(alloc, ScalarCow::new(moment), text),
         None => false,
     }
 }
 
 #[test]
 fn dates_and_date_times_have_texts(rt: HostRuntime) -> Result<(), Fail> {
-    holds(dates_have_texts(rt.alloc()), "a date and a date time")
+    let alloc = rt.alloc();
+    holds(
+        date_has_text(alloc, day(17), "2016-02-17")
+            && moment_has_text(alloc, morning(), "2016-02-16 10:00:00 +0100"),
+        "a date and a date time",
+    )
 }
 
 /// Returns the first moment of 13 June 2016.

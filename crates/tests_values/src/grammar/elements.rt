@@ -74,14 +74,14 @@ fn texts_have_these_elements(rt: HostRuntime) -> Result<(), Fail> {
 }
 
 /// Returns `true` if a tag has its name, its tokens, and no fault.
-fn is_if(tag: TagText<'_>) -> bool {
+fn is_if_tag(tag: TagText<'_>) -> bool {
     tag.name == "if" && tag.tokens == " a %} b" && tag.fault.is_none()
 }
 
 #[test]
 fn tags_have_parts(_rt: HostRuntime) -> Result<(), Fail> {
     let is_tag = match next_element(" {%- if a %} b") {
-        Some((Element::Tag(tag), rest)) => is_if(tag) && rest == " b",
+        Some((Element::Tag(tag), rest)) => is_if_tag(tag) && rest == " b",
         _ => false,
     };
     holds(is_tag, "a tag without a fault")

@@ -51,6 +51,21 @@ fn values_have_texts(rt: HostRuntime) -> Result<(), Fail> {
     rows_hold(rt.alloc(), TEXTS, has_texts)
 }
 
+/// Adds a name after others, with a space between, and returns `true` if memory doesn't run out.
+fn add_name(names: &mut String, name: &str) -> bool {
+    (names.is_empty() || names.push_str(" ").is_ok()) && names.push_str(name).is_ok()
+}
+
+/// Writes down the names of the states that a value is in, and returns `true` if memory doesn't run out.
+fn add_states(names: &mut String, value: &Value) -> bool {
+    for (state, name) in &STATE_NAMES {
+        if value.query_state(*state) && !add_name(names, name) {
+            return false;
+        }
+    }
+    true
+}
+
 static STATE_NAMES: [(State, &str); 4] = [
     (State::Truthy, "truthy"),
     (State::DefaultValue, "default"),
@@ -71,23 +86,23 @@ const STATES: &str = r#"["truthy", 0]
 ["default empty blank", null]
 ["default empty blank", {"state": "truthy"}]"#;
 
-/// Returns `true` if these are the names of the states that a value is in, in order.
-fn has_states(value: &Value, names: &str) -> bool {
-    let mut rest = names;
-    for (state, name) in &STATE_NAMES {
-        if value.query_state(*state) {
-            match rest.strip_prefix(*name) {
-                Some(after) => rest = after.trim_start(),
-                None => return false,
-            }
-        }
+/// Returns `true` if these are the names of the states that a value is in.
+fn has_states(alloc: Global, value: &Value, wanted: &str) -> bool {
+    let mut names = String::new(alloc);
+    add_states(&mut names, value) & (names.as_str() == wanted)
+}
+
+/// Returns `true` if there is a value, and it is in the states with these names.
+fn is_in(alloc: Global, value: Option<Value>, names: &str) -> bool {
+    match value {
+        Some(value) => has_states(alloc, &value, names),
+        None => false,
     }
-    rest.is_empty()
 }
 
 fn is_in_states(alloc: Global, row: &Line) -> bool {
-    match value_at(alloc, row, 1) {
-        Some(value) => has_states(&value, row.text(0).unwrap_or("no names")),
+    match row.text(0) {
+        Some(names) => is_in(alloc, value_at(alloc, row, 1), names),
         None => false,
     }
 }
