@@ -60,7 +60,7 @@ fn both_hold<R: Runtime>(alloc: Global, sandbox: &mut R) -> bool {
 }
 
 /// Returns `true` if a sandbox with `b` over a runtime, and a frame with `c` over that, show and hide names.
-fn frames_hold(alloc: Global, runtime: &mut BuiltRuntime<Marks, ()>) -> bool {
+fn frames_hold<R: Runtime>(alloc: Global, runtime: &mut R) -> bool {
     match numbers(alloc, &[("b", 2)]) {
         Ok(names) => both_hold(alloc, &mut SandboxedStackFrame::new(runtime, names)),
         Err(_) => false,
@@ -68,11 +68,14 @@ fn frames_hold(alloc: Global, runtime: &mut BuiltRuntime<Marks, ()>) -> bool {
 }
 
 /// Returns `true` if frames over a runtime with `a` show and hide names, and `a` is seen again after them.
+fn shows_a_again<R: Runtime>(alloc: Global, runtime: &mut R) -> bool {
+    frames_hold(alloc, runtime) && is_name(alloc, &*runtime, "a", "1")
+}
+
+/// Returns `true` if frames show and hide names over a strict runtime, or over a lenient one.
 fn shows_and_hides(alloc: Global, lenient: bool) -> bool {
     match built(alloc, &[("a", 1)], lenient) {
-        Ok(mut runtime) => {
-            frames_hold(alloc, &mut runtime) && is_name(alloc, &runtime, "a", "1")
-        }
+        Ok(mut runtime) => shows_a_again(alloc, &mut runtime),
         Err(_) => false,
     }
 }
@@ -116,7 +119,7 @@ fn is_test<R: Runtime>(alloc: Global, runtime: &R, number: &str) -> bool {
 }
 
 /// Returns `true` if a frame with `test` hides the global of that name.
-fn is_hidden(alloc: Global, runtime: &mut BuiltRuntime<Marks, ()>) -> bool {
+fn is_hidden<R: Runtime>(alloc: Global, runtime: &mut R) -> bool {
     match numbers(alloc, &[("test", 3)]) {
         Ok(names) => is_test(alloc, &StackFrame::new(runtime, names), "3"),
         Err(_) => false,
@@ -124,7 +127,7 @@ fn is_hidden(alloc: Global, runtime: &mut BuiltRuntime<Marks, ()>) -> bool {
 }
 
 /// Returns `true` if a frame hides a new global while it is open.
-fn hides_a_global(alloc: Global, runtime: &mut BuiltRuntime<Marks, ()>) -> bool {
+fn hides_a_global<R: Runtime>(alloc: Global, runtime: &mut R) -> bool {
     replaces(alloc, runtime, "test", 42, None)
         && is_hidden(alloc, runtime)
         && is_test(alloc, runtime, "42")
@@ -151,9 +154,9 @@ fn page_hides_global<R: Runtime>(alloc: Global, page: &mut R) -> bool {
 }
 
 /// Returns `true` if globals are set below a frame `page` with these names.
-fn sets_below(
+fn sets_below<R: Runtime>(
     alloc: Global,
-    runtime: &mut BuiltRuntime<Marks, ()>,
+    runtime: &mut R,
     names: Object,
     page: Result<String, AllocError>,
 ) -> bool {
@@ -166,7 +169,7 @@ fn sets_below(
 }
 
 /// Returns `true` if globals are set below a frame `page` with `test`.
-fn sets_below_page(alloc: Global, runtime: &mut BuiltRuntime<Marks, ()>) -> bool {
+fn sets_below_page<R: Runtime>(alloc: Global, runtime: &mut R) -> bool {
     match numbers(alloc, &[("test", 3)]) {
         Ok(names) => sets_below(alloc, runtime, names, text(alloc, "page")),
         Err(_) => false,
@@ -175,7 +178,7 @@ fn sets_below_page(alloc: Global, runtime: &mut BuiltRuntime<Marks, ()>) -> bool
 
 /// Returns `true` if globals that are set below a frame have their numbers after it, and the runtime has no name, and its
 /// depth.
-fn keeps_globals(alloc: Global, runtime: &mut BuiltRuntime<Marks, ()>) -> bool {
+fn keeps_globals<R: Runtime>(alloc: Global, runtime: &mut R) -> bool {
     replaces(alloc, runtime, "test", 42, None)
         && sets_below_page(alloc, runtime)
         && is_test(alloc, runtime, "43")
@@ -224,7 +227,7 @@ fn is_a_sandbox<R: Runtime<Register = Marks>>(alloc: Global, sandbox: &mut R) ->
 }
 
 /// Returns `true` if a sandbox over a runtime is one.
-fn sandbox_holds(alloc: Global, runtime: &mut BuiltRuntime<Marks, u8>) -> bool {
+fn sandbox_holds<R: Runtime<Register = Marks>>(alloc: Global, runtime: &mut R) -> bool {
     is_a_sandbox(
         alloc,
         &mut SandboxedStackFrame::new(runtime, Object::new(alloc)),
@@ -240,7 +243,7 @@ fn keeps_registers<R: Runtime<Register = Marks>>(runtime: &mut R) -> bool {
 
 /// Returns `true` if a runtime has an index variable that was set in a sandbox, and the registers, the depth and the
 /// partials that it had before.
-fn is_kept(runtime: &mut BuiltRuntime<Marks, u8>) -> bool {
+fn is_kept<R: Runtime<Register = Marks, Store = u8>>(runtime: &mut R) -> bool {
     runtime.try_get_name("i").is_some()
         && keeps_registers(runtime)
         && runtime.depth() == 3
