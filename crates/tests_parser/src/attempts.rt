@@ -1,42 +1,52 @@
 //! Attempts to read a token, and errors of a token and of a cursor.
-use crate::languages::{Check, check_language};
+use crate::languages::{Check, language_rows_hold};
 use crate::rows::{pairs_hold, texts_at};
 use crate::tokens::{first_token, tokens_of};
 use crate::told::{displays, is_done, is_name, tells};
 use liquid_core::parser::{
-    Filter, FilterChain, Language, ParseBlock, ParseFilter, ParseTag, PluginRegistry, TagToken,
-    TryMatchToken,
+    Filter, FilterChain, ParseFilter, PluginRegistry, TagToken, TryMatchToken,
 };
-use liquid_core::runtime::Renderable;
-use std::alloc::{AllocError, Global};
+use std::alloc::Global;
 use std::test::Fail;
 use tests_lines::{Line, rows_hold};
 
 /// Returns `true` if an attempt at a chain has one that shows this text, or if this is the text of a token that is no
 /// chain.
-fn is_chain_or_text<X: Filter>(
+fn shows<X: Filter>(
     alloc: Global,
-    attempt: Result<TryMatchToken<'_, FilterChain<X>>, AllocError>,
+    attempt: &TryMatchToken<'_, FilterChain<X>>,
     text: &str,
 ) -> bool {
     match attempt {
-        Ok(TryMatchToken::Matches(chain)) => displays(alloc, &chain, text),
-        Ok(TryMatchToken::Fails(token)) => {
-            text.strip_prefix("no chain: ") == Some(token.as_str())
-        }
+        TryMatchToken::Matches(chain) => displays(alloc, chain, text),
+        TryMatchToken::Fails(token) => text.strip_prefix("no chain: ") == Some(token.as_str()),
+    }
+}
+
+/// Returns `true` if a token shows the chain or the text that is given.
+fn is_tried_as<F: ParseFilter + Drop>(
+    alloc: Global,
+    token: TagToken<'_>,
+    text: &str,
+    filters: &PluginRegistry<F>,
+) -> bool {
+    match token.expect_filter_chain(alloc, filters) {
+        Ok(attempt) => shows(alloc, &attempt, text),
         Err(_) => false,
     }
 }
 
-/// Returns `true` if a tag's first token shows the chain or the text that is given.
-fn is_tried<F: ParseFilter + Drop>(
+/// Returns `true` if the first token of a row's tag shows the chain or the text of the row.
+pub(crate) fn is_tried<F: ParseFilter + Drop>(
     alloc: Global,
-    tag: &str,
-    text: &str,
+    row: &Line,
     filters: &PluginRegistry<F>,
 ) -> bool {
+    let Some((tag, text)) = texts_at(row, 0, 1) else {
+        return false;
+    };
     match first_token(alloc, tag) {
-        Ok(token) => is_chain_or_text(alloc, token.expect_filter_chain(alloc, filters), text),
+        Ok(token) => is_tried_as(alloc, token, text, filters),
         Err(_) => false,
     }
 }
@@ -49,27 +59,9 @@ static CHAINS: &str = r#"["{% t a %}", "a | "]
 ["{% t (a..b) %}", "no chain: (a..b)"]
 ["{% t == %}", "no chain: =="]"#;
 
-/// Chains of filters are tried.
-struct TriedChains;
-
-impl Check for TriedChains {
-    fn check<F, T, B>(&self, alloc: Global, language: &Language<F, T, B>) -> Result<(), Fail>
-    where
-        F: ParseFilter + Drop,
-        T: ParseTag<F> + Drop,
-        B: ParseBlock<F> + Drop,
-        T::Node: Renderable<()>,
-        B::Node: Renderable<()>,
-    {
-        pairs_hold(alloc, CHAINS, |alloc, tag, text| {
-            is_tried(alloc, tag, text, &language.filters)
-        })
-    }
-}
-
 #[test]
 fn chains_of_filters_are_tried(rt: HostRuntime) -> Result<(), Fail> {
-    check_language(rt.alloc(), &TriedChains)
+    language_rows_hold(rt.alloc(), Check::Chain, CHAINS)
 }
 
 /// Returns `true` if a token is this name, or its error has this first line.

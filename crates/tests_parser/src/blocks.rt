@@ -1,5 +1,5 @@
 //! Bodies of blocks, with the nodes that their elements are parsed into.
-use crate::languages::{Check, check_language};
+use crate::languages::{Check, language_rows_hold};
 use crate::rows::texts_at;
 use crate::told::tells;
 use liquid_core::Error;
@@ -8,7 +8,7 @@ use liquid_core::parser::{Filter, Language, Node, ParseBlock, ParseFilter, Parse
 use liquid_core::runtime::{BuiltRuntime, Renderable, RuntimeBuilder, Template};
 use std::alloc::{AllocError, Global};
 use std::test::Fail;
-use tests_lines::{Line, holds};
+use tests_lines::Line;
 
 /// Returns a runtime without globals.
 fn nothing_known(alloc: Global) -> BuiltRuntime<(), ()> {
@@ -70,7 +70,7 @@ static BODIES: &str = r#"["{% end %}a", ""]
 ["{% end 1 %}", "liquid: Unexpected token (line 1, column 8)"]"#;
 
 /// Returns `true` if a row has the result of its body.
-fn is_parsed<F, T, B>(alloc: Global, row: &Line, language: &Language<F, T, B>) -> bool
+pub(crate) fn is_parsed<F, T, B>(alloc: Global, row: &Line, language: &Language<F, T, B>) -> bool
 where
     F: ParseFilter + Drop,
     T: ParseTag<F> + Drop,
@@ -84,43 +84,9 @@ where
     }
 }
 
-/// Returns `true` if the row of a line has the result of its body.
-fn line_is_parsed<F, T, B>(alloc: Global, line: &str, language: &Language<F, T, B>) -> bool
-where
-    F: ParseFilter + Drop,
-    T: ParseTag<F> + Drop,
-    B: ParseBlock<F> + Drop,
-    T::Node: Renderable<()>,
-    B::Node: Renderable<()>,
-{
-    match Line::of(alloc, line) {
-        Some(row) => is_parsed(alloc, &row, language),
-        None => false,
-    }
-}
-
-/// Bodies are parsed up to their ends.
-struct UpToTheirEnds;
-
-impl Check for UpToTheirEnds {
-    fn check<F, T, B>(&self, alloc: Global, language: &Language<F, T, B>) -> Result<(), Fail>
-    where
-        F: ParseFilter + Drop,
-        T: ParseTag<F> + Drop,
-        B: ParseBlock<F> + Drop,
-        T::Node: Renderable<()>,
-        B::Node: Renderable<()>,
-    {
-        for line in BODIES.lines() {
-            holds(line_is_parsed(alloc, line, language), line)?;
-        }
-        Ok(())
-    }
-}
-
 #[test]
 fn bodies_are_parsed_up_to_their_ends(rt: HostRuntime) -> Result<(), Fail> {
-    check_language(rt.alloc(), &UpToTheirEnds)
+    language_rows_hold(rt.alloc(), Check::Body, BODIES)
 }
 
 /// Returns a body of that many nested boxes.
@@ -155,30 +121,42 @@ fn has_length(answer: Result<String, Error>, length: usize) -> bool {
     }
 }
 
-/// The error of 100 boxes in each other.
-const TOO_DEEP: &str = "liquid: Nested too deep (line 1, column 895)";
-
-/// A cursor counts as one open block.
-struct OpenBlocks;
-
-impl Check for OpenBlocks {
-    fn check<F, T, B>(&self, alloc: Global, language: &Language<F, T, B>) -> Result<(), Fail>
-    where
-        F: ParseFilter + Drop,
-        T: ParseTag<F> + Drop,
-        B: ParseBlock<F> + Drop,
-        T::Node: Renderable<()>,
-        B::Node: Renderable<()>,
-    {
-        holds(
-            has_length(boxed_text(alloc, 99, language), 198)
-                && is_text_or_told(alloc, boxed_text(alloc, 100, language), TOO_DEEP),
-            "99 boxes in each other are parsed, and 100 are refused",
-        )
+/// Returns the number at a place of a row, or `None` if there is none.
+fn number_at(row: &Line, place: usize) -> Option<usize> {
+    match row.number(place) {
+        Some(number) => usize::try_from(number).ok(),
+        None => None,
     }
 }
 
+/// Returns `true` if nested boxes write a text of the length that a row has, or have the row's error.
+pub(crate) fn are_boxes_parsed<F, T, B>(
+    alloc: Global,
+    row: &Line,
+    language: &Language<F, T, B>,
+) -> bool
+where
+    F: ParseFilter + Drop,
+    T: ParseTag<F> + Drop,
+    B: ParseBlock<F> + Drop,
+    T::Node: Renderable<()>,
+    B::Node: Renderable<()>,
+{
+    let Some(count) = number_at(row, 0) else {
+        return false;
+    };
+    match (number_at(row, 1), row.text(1)) {
+        (Some(length), _) => has_length(boxed_text(alloc, count, language), length),
+        (None, Some(line)) => is_text_or_told(alloc, boxed_text(alloc, count, language), line),
+        (None, None) => false,
+    }
+}
+
+/// The number of boxes in each other, and the length of what they write, or their error.
+static BOXES: &str = r#"[99, 198]
+[100, "liquid: Nested too deep (line 1, column 895)"]"#;
+
 #[test]
 fn a_cursor_counts_as_one_open_block(rt: HostRuntime) -> Result<(), Fail> {
-    check_language(rt.alloc(), &OpenBlocks)
+    language_rows_hold(rt.alloc(), Check::Boxes, BOXES)
 }

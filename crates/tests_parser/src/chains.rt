@@ -1,6 +1,6 @@
 //! Chains of filters, made by hand.
 use crate::made::{arguments_in, path_at};
-use crate::runtimes::{Check, check_over_both};
+use crate::runtimes::{Check, rows_hold_over_both};
 use crate::told::displays;
 use bench::filters::{AnyFilter, Filters};
 use liquid_core::model::ValueCow;
@@ -11,7 +11,7 @@ use liquid_plugins::{Expression, FilterChain, ParseFilter};
 use serde_json::Value as Json;
 use std::alloc::Global;
 use std::test::Fail;
-use tests_lines::{Line, rows_hold};
+use tests_lines::Line;
 
 /// Returns `true` if a result is a value that renders as a text, or an error with that text.
 pub(crate) fn is_rendered(alloc: Global, answer: Result<ValueCow<'_>, Error>, text: &str) -> bool {
@@ -120,29 +120,16 @@ fn is_as_told<X: Filter, R: Runtime>(
 }
 
 /// Returns `true` if the chain of a row is as the row says.
-fn chain_is_as_told<R: Runtime>(alloc: Global, row: &Line, runtime: &R) -> bool {
+pub(crate) fn chain_is_as_told<R: Runtime>(alloc: Global, row: &Line, runtime: &R) -> bool {
     match chain_of(alloc, row) {
         Some(chain) => is_as_told(alloc, &chain, row, runtime),
         None => false,
     }
 }
 
-/// Chains come to their values.
-struct ComeToValues;
-
-impl Check for ComeToValues {
-    fn check<R: Runtime>(&self, alloc: Global, runtime: &R) -> Result<(), Fail> {
-        rows_hold(
-            alloc,
-            ROWS,
-            |alloc, row| chain_is_as_told(alloc, row, runtime),
-        )
-    }
-}
-
 #[test]
 fn chains_come_to_their_values(rt: HostRuntime) -> Result<(), Fail> {
-    check_over_both(rt.alloc(), &ComeToValues)
+    rows_hold_over_both(rt.alloc(), Check::Chain, ROWS)
 }
 
 /// Returns `true` if trying gives the value that evaluating gives, or nothing if that is nil because names are lenient.
@@ -175,27 +162,14 @@ fn is_tried<R: Runtime>(alloc: Global, entry: &Expression, runtime: &R) -> bool 
 }
 
 /// Returns `true` if the entry of a row is tried alike.
-fn entry_is_tried<R: Runtime>(alloc: Global, row: &Line, runtime: &R) -> bool {
+pub(crate) fn entry_is_tried<R: Runtime>(alloc: Global, row: &Line, runtime: &R) -> bool {
     match path_at(alloc, row, 0) {
         Some(entry) => is_tried(alloc, &entry, runtime),
         None => false,
     }
 }
 
-/// What is tried is not refused.
-struct AreTried;
-
-impl Check for AreTried {
-    fn check<R: Runtime>(&self, alloc: Global, runtime: &R) -> Result<(), Fail> {
-        rows_hold(
-            alloc,
-            ROWS,
-            |alloc, row| entry_is_tried(alloc, row, runtime),
-        )
-    }
-}
-
 #[test]
 fn what_is_tried_is_not_refused(rt: HostRuntime) -> Result<(), Fail> {
-    check_over_both(rt.alloc(), &AreTried)
+    rows_hold_over_both(rt.alloc(), Check::Entry, ROWS)
 }

@@ -7,16 +7,21 @@ use std::alloc::{AllocError, Global};
 use std::test::Fail;
 use tests_lines::{Line, holds, is_text, rows_hold};
 
-/// Returns the kind of an element and its text.
-fn shown(alloc: Global, element: BlockElement<'_>) -> Result<String, AllocError> {
-    let (kind, text) = match element {
+/// Returns the kind of an element, and its text.
+fn kind_and_text<'a>(element: BlockElement<'a>) -> (&'a str, &'a str) {
+    match element {
         BlockElement::Raw(raw) => ("raw", raw.as_str()),
         BlockElement::Tag(tag) => (tag.name(), tag.as_str()),
         BlockElement::Expression(exp) => ("expression", exp.as_str()),
         BlockElement::Invalid(token) => ("invalid", token.as_str()),
-    };
-    let same = if text == element.as_str() { "" } else { "!" };
-    format!(in alloc; "{kind} `{text}`{same}")
+    }
+}
+
+/// Returns the kind of an element and its text, with a mark after it if the element has another text.
+fn shown(alloc: Global, element: BlockElement<'_>) -> Result<String, AllocError> {
+    let (kind, text) = kind_and_text(element);
+    let mark = if text == element.as_str() { "" } else { "!" };
+    format!(in alloc; "{kind} `{text}`{mark}")
 }
 
 /// Puts a text after others.

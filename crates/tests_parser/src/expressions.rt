@@ -1,13 +1,13 @@
 //! Expressions and paths, made by hand.
 use crate::made::{list_of, named, path, word};
-use crate::runtimes::{Check, check_over};
+use crate::runtimes::{Check, rows_hold_over};
 use crate::told::{displays, is_answer};
 use liquid_core::model::{Scalar, Value};
 use liquid_core::runtime::Runtime;
 use liquid_plugins::{Expression, Variable};
 use std::alloc::{AllocError, Global};
 use std::test::Fail;
-use tests_lines::holds;
+use tests_lines::{Line, holds};
 
 /// Returns the path of a name without indexes.
 fn path_to(alloc: Global, name: &str) -> Result<Variable, AllocError> {
@@ -185,27 +185,31 @@ fn leads_nowhere<R: Runtime>(alloc: Global, variable: &Variable, runtime: &R) ->
     variable.evaluate(alloc, runtime).is_err() && is_found(alloc, variable, false, runtime)
 }
 
-/// Returns `true` if `box[word]` leads to `box.part`, and `box[word][one]` leads nowhere.
-fn is_tried<R: Runtime>(alloc: Global, variable: &mut Variable, runtime: &R) -> bool {
-    add_index(alloc, variable, "word")
-        && leads_to(alloc, variable, "box.part", runtime)
-        && add_index(alloc, variable, "one")
-        && leads_nowhere(alloc, variable, runtime)
-}
-
-/// A path is tried index by index.
-struct IndexByIndex;
-
-impl Check for IndexByIndex {
-    fn check<R: Runtime>(&self, alloc: Global, runtime: &R) -> Result<(), Fail> {
-        holds(
-            is_tried(alloc, &mut path_to(alloc, "box")?, runtime),
-            "box[word] leads to box.part, and box[word][one] leads nowhere",
-        )
+/// Returns `true` if a path with a row's first index leads where the row says, and with the row's second one nowhere.
+fn is_tried<R: Runtime>(alloc: Global, row: &Line, variable: &mut Variable, runtime: &R) -> bool {
+    match (row.text(1), row.text(2), row.text(3)) {
+        (Some(first), Some(path), Some(second)) => {
+            add_index(alloc, variable, first)
+                && leads_to(alloc, variable, path, runtime)
+                && add_index(alloc, variable, second)
+                && leads_nowhere(alloc, variable, runtime)
+        }
+        _ => false,
     }
 }
 
+/// Returns `true` if the path of a row's name and indexes is tried index by index.
+pub(crate) fn path_is_tried<R: Runtime>(alloc: Global, row: &Line, runtime: &R) -> bool {
+    match path_to(alloc, row.text(0).unwrap_or("")) {
+        Ok(mut variable) => is_tried(alloc, row, &mut variable, runtime),
+        Err(_) => false,
+    }
+}
+
+/// A name, an index, where the path leads, and an index after which it leads nowhere.
+static PATHS: &str = r#"["box", "word", "box.part", "one"]"#;
+
 #[test]
 fn a_path_is_tried_index_by_index(rt: HostRuntime) -> Result<(), Fail> {
-    check_over(rt.alloc(), false, &IndexByIndex)
+    rows_hold_over(rt.alloc(), Check::Path, PATHS, false)
 }

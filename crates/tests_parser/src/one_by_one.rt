@@ -1,6 +1,7 @@
 //! Elements of bodies, parsed one by one.
 use crate::blocks::{is_text_or_told, rendered};
-use crate::languages::{Check, check_language};
+use crate::languages::{Check, language_rows_hold};
+use crate::rows::texts_at;
 use crate::told::tells;
 use liquid_core::Error;
 use liquid_core::parser::{
@@ -10,7 +11,7 @@ use liquid_core::parser::{
 use liquid_core::runtime::Renderable;
 use std::alloc::Global;
 use std::test::Fail;
-use tests_lines::holds;
+use tests_lines::Line;
 
 /// Adds a node that was read after others. Returns `false` if reading it failed.
 fn push<X: Drop, N: Drop, K: Drop>(
@@ -97,8 +98,8 @@ where
         && is_text_or_told(alloc, rendered(alloc, nodes), text)
 }
 
-/// Returns `true` if a cursor has no element more, and is closed.
-fn is_at_end<F, T, B>(
+/// Returns `true` if a cursor has no element more.
+fn has_no_next<F, T, B>(
     alloc: Global,
     block: &mut TagBlock<'_, '_>,
     language: &Language<F, T, B>,
@@ -109,37 +110,44 @@ where
     B: ParseBlock<F> + Drop,
 {
     match block.parse_next(alloc, language) {
-        Ok(None) => block.is_closed(),
-        _ => false,
+        Ok(next) => next.is_none(),
+        Err(_) => false,
     }
 }
 
-/// Elements are parsed one by one.
-struct OneByOne;
-
-impl Check for OneByOne {
-    fn check<F, T, B>(&self, alloc: Global, language: &Language<F, T, B>) -> Result<(), Fail>
-    where
-        F: ParseFilter + Drop,
-        T: ParseTag<F> + Drop,
-        B: ParseBlock<F> + Drop,
-        T::Node: Renderable<()>,
-        B::Node: Renderable<()>,
-    {
-        let body = "a{{ 5 }}{% box %}b{% endbox %}{{ 6 }}{% end %}";
-        let mut block = TagBlock::new(body, "start", "end");
-        holds(
-            four_come_to(alloc, &mut block, "a5[b]6", language)
-                && is_at_end(alloc, &mut block, language)
-                && is_at_end(alloc, &mut block, language),
-            "four elements are parsed one by one, and then the cursor stays closed",
-        )
+/// Returns `true` if the four elements of a row's body are parsed one by one to the row's text, and the cursor stays
+/// closed then.
+pub(crate) fn are_four_parsed<F, T, B>(
+    alloc: Global,
+    row: &Line,
+    language: &Language<F, T, B>,
+) -> bool
+where
+    F: ParseFilter + Drop,
+    T: ParseTag<F> + Drop,
+    B: ParseBlock<F> + Drop,
+    T::Node: Renderable<()>,
+    B::Node: Renderable<()>,
+{
+    match texts_at(row, 0, 1) {
+        Some((body, text)) => {
+            let mut block = TagBlock::new(body, "start", "end");
+            four_come_to(alloc, &mut block, text, language)
+                && has_no_next(alloc, &mut block, language)
+                && block.is_closed()
+                && has_no_next(alloc, &mut block, language)
+                && block.is_closed()
+        }
+        None => false,
     }
 }
+
+/// A body of four elements, and what they write.
+static FOUR: &str = r#"["a{{ 5 }}{% box %}b{% endbox %}{{ 6 }}{% end %}", "a5[b]6"]"#;
 
 #[test]
 fn elements_are_parsed_one_by_one(rt: HostRuntime) -> Result<(), Fail> {
-    check_language(rt.alloc(), &OneByOne)
+    language_rows_hold(rt.alloc(), Check::FourElements, FOUR)
 }
 
 /// Returns `true` if reading a node was an error with this first line.
@@ -191,27 +199,15 @@ where
     }
 }
 
-/// Adds the node of a text after others. Returns `false` if memory runs out.
-fn add_raw<X: Drop, N: Drop, K: Drop>(
+/// Returns the node of the text that a body begins with.
+fn first_text<X: Drop, N: Drop, K: Drop>(
     alloc: Global,
-    nodes: &mut Vec<Node<X, N, K>>,
-    raw: Raw<'_>,
-) -> bool {
-    match raw.into_renderable(alloc) {
-        Ok(node) => nodes.push(node).is_ok(),
-        Err(_) => false,
-    }
-}
-
-/// Adds the node of the text that a body begins with.
-fn add_text<X: Drop, N: Drop, K: Drop>(
-    alloc: Global,
-    nodes: &mut Vec<Node<X, N, K>>,
     body: &str,
-) -> bool {
-    match TagBlock::new(body, "start", "end").next(alloc) {
-        Ok(Some(BlockElement::Raw(raw))) => add_raw(alloc, nodes, raw),
-        _ => false,
+) -> Result<Node<X, N, K>, Error> {
+    let mut block = TagBlock::new(body, "start", "end");
+    match block.next(alloc)? {
+        Some(BlockElement::Raw(raw)) => Ok(raw.into_renderable(alloc)?),
+        _ => Err(Error::with_msg(alloc, "a body begins with no text")),
     }
 }
 
@@ -229,7 +225,8 @@ where
 {
     match Tag::new(alloc, "{% box %}") {
         Ok(tag) => {
-            push(nodes, tag.parse(alloc, block, language)) && add_text(alloc, nodes, "b{% end %}")
+            push(nodes, tag.parse(alloc, block, language))
+                && push(nodes, first_text(alloc, "b{% end %}"))
         }
         Err(_) => false,
     }
@@ -254,29 +251,35 @@ where
         && is_text_or_told(alloc, rendered(alloc, nodes), text)
 }
 
-/// A tag alone takes its body from a cursor.
-struct BodyInCursor;
-
-impl Check for BodyInCursor {
-    fn check<F, T, B>(&self, alloc: Global, language: &Language<F, T, B>) -> Result<(), Fail>
-    where
-        F: ParseFilter + Drop,
-        T: ParseTag<F> + Drop,
-        B: ParseBlock<F> + Drop,
-        T::Node: Renderable<()>,
-        B::Node: Renderable<()>,
-    {
-        let mut block = TagBlock::new("a{% endbox %}{{% end %}", "start", "end");
-        let refusal = "liquid: Invalid liquid (line 1, column 14)";
-        holds(
-            box_comes_to(alloc, &mut block, "[a]b", language)
-                && brace_is_refused(alloc, &mut block, refusal, language),
-            "a box has its body in the cursor, and the brace after it is refused",
-        )
+/// Returns `true` if a row's body is that of a tag `box` alone, which writes the row's text, and the brace after it has the
+/// row's error.
+pub(crate) fn is_box_parsed<F, T, B>(
+    alloc: Global,
+    row: &Line,
+    language: &Language<F, T, B>,
+) -> bool
+where
+    F: ParseFilter + Drop,
+    T: ParseTag<F> + Drop,
+    B: ParseBlock<F> + Drop,
+    T::Node: Renderable<()>,
+    B::Node: Renderable<()>,
+{
+    match (texts_at(row, 0, 1), row.text(2)) {
+        (Some((body, text)), Some(refusal)) => {
+            let mut block = TagBlock::new(body, "start", "end");
+            box_comes_to(alloc, &mut block, text, language)
+                && brace_is_refused(alloc, &mut block, refusal, language)
+        }
+        _ => false,
     }
 }
 
+/// The body of a box and a brace after it, what the box and a text after it write, and the error of the brace.
+static BOX: &str =
+    r#"["a{% endbox %}{{% end %}", "[a]b", "liquid: Invalid liquid (line 1, column 14)"]"#;
+
 #[test]
 fn a_tag_alone_takes_its_body_from_a_cursor(rt: HostRuntime) -> Result<(), Fail> {
-    check_language(rt.alloc(), &BodyInCursor)
+    language_rows_hold(rt.alloc(), Check::BoxAlone, BOX)
 }

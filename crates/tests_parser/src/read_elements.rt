@@ -1,16 +1,15 @@
 //! Calls of the parser that no other crate's tests make by name.
-use crate::languages::{Check, check_language};
-use crate::rows::pairs_hold;
+use crate::languages::{Check, language_rows_hold};
+use crate::rows::texts_at;
 use crate::told::displays;
 use liquid_core::Error;
 use liquid_core::parser::{
     BlockElement, InvalidLiquidToken, Language, Node, ParseBlock, ParseFilter, ParseTag, Tag,
     TagBlock, TagToken, TagTokenIter,
 };
-use liquid_core::runtime::Renderable;
 use std::alloc::Global;
 use std::test::Fail;
-use tests_lines::holds;
+use tests_lines::{Line, holds};
 
 /// Returns the kind of a node.
 fn kind_of<X, N, K>(node: &Node<X, N, K>) -> &'static str {
@@ -22,14 +21,10 @@ fn kind_of<X, N, K>(node: &Node<X, N, K>) -> &'static str {
 }
 
 /// Returns `true` if a node that was read is of a kind, or if the text of the error is this one.
-fn is_kind<X: Drop, N: Drop, K: Drop>(
-    alloc: Global,
-    read: Result<Node<X, N, K>, Error>,
-    kind: &str,
-) -> bool {
+fn is_kind<X, N, K>(alloc: Global, read: &Result<Node<X, N, K>, Error>, kind: &str) -> bool {
     match read {
-        Ok(node) => kind_of(&node) == kind,
-        Err(error) => displays(alloc, &error, kind),
+        Ok(node) => kind_of(node) == kind,
+        Err(error) => displays(alloc, error, kind),
     }
 }
 
@@ -52,15 +47,20 @@ where
     }
 }
 
-/// Returns `true` if the first element of a body is read as a kind of node, or the text of the error is this one.
-fn is_read_as<F, T, B>(alloc: Global, body: &str, kind: &str, language: &Language<F, T, B>) -> bool
+/// Returns `true` if the first element of a row's body is read as a kind of node, or if its error has the row's text.
+pub(crate) fn is_read<F, T, B>(alloc: Global, row: &Line, language: &Language<F, T, B>) -> bool
 where
     F: ParseFilter + Drop,
     T: ParseTag<F> + Drop,
     B: ParseBlock<F> + Drop,
 {
-    let mut block = TagBlock::new(body, "start", "end");
-    is_kind(alloc, next_read(alloc, &mut block, language), kind)
+    match texts_at(row, 0, 1) {
+        Some((body, kind)) => {
+            let mut block = TagBlock::new(body, "start", "end");
+            is_kind(alloc, &next_read(alloc, &mut block, language), kind)
+        }
+        None => false,
+    }
 }
 
 /// Bodies, and what the first element of each is read as.
@@ -70,29 +70,9 @@ static ROWS: &str = r#"["{% set g 1 %}", "tag"]
 ["{{ 1 }}", "other"]
 ["{{ ! }}", "liquid: Invalid liquid (line 1, column 1)\n"]"#;
 
-/// Elements are read one by one.
-struct ReadElements;
-
-impl Check for ReadElements {
-    fn check<F, T, B>(&self, alloc: Global, language: &Language<F, T, B>) -> Result<(), Fail>
-    where
-        F: ParseFilter + Drop,
-        T: ParseTag<F> + Drop,
-        B: ParseBlock<F> + Drop,
-        T::Node: Renderable<()>,
-        B::Node: Renderable<()>,
-    {
-        pairs_hold(
-            alloc,
-            ROWS,
-            |alloc, body, kind| is_read_as(alloc, body, kind, language),
-        )
-    }
-}
-
 #[test]
 fn elements_are_read_one_by_one(rt: HostRuntime) -> Result<(), Fail> {
-    check_language(rt.alloc(), &ReadElements)
+    language_rows_hold(rt.alloc(), Check::FirstElement, ROWS)
 }
 
 /// Returns `true` if an error about the place of some tokens has this text.

@@ -1,13 +1,9 @@
 //! What tags and blocks say about themselves.
-use crate::languages::{Check, check_language};
+use crate::languages::{Check, language_rows_hold};
 use crate::rows::has_text;
-use liquid_core::parser::{
-    BlockReflection, Language, ParseBlock, ParseFilter, ParseTag, PluginRegistry, TagReflection,
-};
-use liquid_core::runtime::Renderable;
-use std::alloc::Global;
+use liquid_core::parser::{BlockReflection, PluginRegistry, TagReflection};
 use std::test::Fail;
-use tests_lines::{Line, rows_hold};
+use tests_lines::Line;
 
 /// Returns `true` if a row has null at a place.
 fn has_null(row: &Line, place: usize) -> bool {
@@ -35,7 +31,7 @@ fn block_is_told<B: BlockReflection>(block: &B, row: &Line) -> bool {
 }
 
 /// Returns `true` if the block that a row names is registered, and says what the row says.
-fn has_block<B: BlockReflection + Drop>(row: &Line, blocks: &PluginRegistry<B>) -> bool {
+pub(crate) fn has_block<B: BlockReflection + Drop>(row: &Line, blocks: &PluginRegistry<B>) -> bool {
     match blocks.get(row.text(0).unwrap_or("")) {
         Some(block) => block_is_told(block, row),
         None => false,
@@ -47,25 +43,9 @@ static BLOCKS: &str = r#"["box", "endbox", "Writes its body in brackets.", null,
 ["swap", "endswap", "Renders what comes after `mid`, and then what comes before it.", null, null]
 ["raw", "endraw", "Writes its body as it stands.", null, null]"#;
 
-/// Blocks tell what they are.
-struct TellBlocks;
-
-impl Check for TellBlocks {
-    fn check<F, T, B>(&self, alloc: Global, language: &Language<F, T, B>) -> Result<(), Fail>
-    where
-        F: ParseFilter + Drop,
-        T: ParseTag<F> + Drop,
-        B: ParseBlock<F> + Drop,
-        T::Node: Renderable<()>,
-        B::Node: Renderable<()>,
-    {
-        rows_hold(alloc, BLOCKS, |_, row| has_block(row, &language.blocks))
-    }
-}
-
 #[test]
 fn blocks_tell_what_they_are(rt: HostRuntime) -> Result<(), Fail> {
-    check_language(rt.alloc(), &TellBlocks)
+    language_rows_hold(rt.alloc(), Check::Block, BLOCKS)
 }
 
 /// Returns `true` if a tag has the name, the description, the example and the spec of a row.
@@ -77,7 +57,7 @@ fn tag_is_told<T: TagReflection>(tag: &T, row: &Line) -> bool {
 }
 
 /// Returns `true` if the tag that a row names is registered, and says what the row says.
-fn has_tag<T: TagReflection + Drop>(row: &Line, tags: &PluginRegistry<T>) -> bool {
+pub(crate) fn has_tag<T: TagReflection + Drop>(row: &Line, tags: &PluginRegistry<T>) -> bool {
     match tags.get(row.text(0).unwrap_or("")) {
         Some(tag) => tag_is_told(tag, row),
         None => false,
@@ -88,23 +68,7 @@ fn has_tag<T: TagReflection + Drop>(row: &Line, tags: &PluginRegistry<T>) -> boo
 static TAGS: &str = r#"["set", "Sets a global to a value, and writes nothing.", null, null]
 ["brk", "Leaves the loop around it.", null, null]"#;
 
-/// Tags tell what they are.
-struct TellTags;
-
-impl Check for TellTags {
-    fn check<F, T, B>(&self, alloc: Global, language: &Language<F, T, B>) -> Result<(), Fail>
-    where
-        F: ParseFilter + Drop,
-        T: ParseTag<F> + Drop,
-        B: ParseBlock<F> + Drop,
-        T::Node: Renderable<()>,
-        B::Node: Renderable<()>,
-    {
-        rows_hold(alloc, TAGS, |_, row| has_tag(row, &language.tags))
-    }
-}
-
 #[test]
 fn tags_tell_what_they_are(rt: HostRuntime) -> Result<(), Fail> {
-    check_language(rt.alloc(), &TellTags)
+    language_rows_hold(rt.alloc(), Check::Tag, TAGS)
 }

@@ -1,9 +1,50 @@
 //! What tests check over a runtime.
+use crate::chains::{chain_is_as_told, entry_is_tried};
+use crate::expressions::path_is_tried;
 use liquid_core::model::{Object, to_object};
 use liquid_core::runtime::{BuiltRuntime, Runtime, RuntimeBuilder};
 use serde_json::Value as Json;
 use std::alloc::Global;
 use std::test::Fail;
+use tests_lines::{Line, holds};
+
+/// What a test checks in each row of a table.
+#[derive(Clone, Copy)]
+pub(crate) enum Check {
+    Chain,
+    Entry,
+    Path,
+}
+
+/// Returns `true` if a row passes a check over a runtime.
+fn row_holds<R: Runtime>(alloc: Global, check: Check, row: &Line, runtime: &R) -> bool {
+    match check {
+        Check::Chain => chain_is_as_told(alloc, row, runtime),
+        Check::Entry => entry_is_tried(alloc, row, runtime),
+        Check::Path => path_is_tried(alloc, row, runtime),
+    }
+}
+
+/// Returns `true` if the row of a line passes a check over a runtime.
+fn line_holds<R: Runtime>(alloc: Global, check: Check, line: &str, runtime: &R) -> bool {
+    match Line::of(alloc, line) {
+        Some(row) => row_holds(alloc, check, &row, runtime),
+        None => false,
+    }
+}
+
+/// Fails for the first row of a table that does not pass a check over a runtime.
+fn rows_hold_in<R: Runtime>(
+    alloc: Global,
+    check: Check,
+    rows: &str,
+    runtime: &R,
+) -> Result<(), Fail> {
+    for line in rows.lines() {
+        holds(line_holds(alloc, check, line, runtime), line)?;
+    }
+    Ok(())
+}
 
 /// The globals of the rows.
 const GLOBALS: &str =
@@ -25,22 +66,23 @@ fn runtime(alloc: Global, globals: Object, is_lenient: bool) -> BuiltRuntime<(),
         .build()
 }
 
-/// What a test checks over any runtime.
-pub(crate) trait Check {
-    fn check<R: Runtime>(&self, alloc: Global, runtime: &R) -> Result<(), Fail>;
-}
-
-/// Checks a runtime with the globals, with lenient names or not. No other function here names its type in a call that is
-/// generic in the runtime: each that does is checked against all that a runtime promises.
-pub(crate) fn check_over<C: Check>(alloc: Global, is_lenient: bool, check: &C) -> Result<(), Fail> {
+/// Fails for the first row of a table that does not pass a check over a runtime with the globals, with lenient names or
+/// not. No other function here names its type in a call that is generic in the runtime: each that does is checked
+/// against all that a runtime promises.
+pub(crate) fn rows_hold_over(
+    alloc: Global,
+    check: Check,
+    rows: &str,
+    is_lenient: bool,
+) -> Result<(), Fail> {
     match globals(alloc) {
-        Some(globals) => check.check(alloc, &runtime(alloc, globals, is_lenient)),
+        Some(globals) => rows_hold_in(alloc, check, rows, &runtime(alloc, globals, is_lenient)),
         None => Err(Fail::from("the globals are not made")),
     }
 }
 
-/// Checks a runtime with the globals and strict names, and one with lenient names.
-pub(crate) fn check_over_both<C: Check>(alloc: Global, check: &C) -> Result<(), Fail> {
-    check_over(alloc, false, check)?;
-    check_over(alloc, true, check)
+/// Fails for the first row of a table that does not pass a check with strict names, and then with lenient names.
+pub(crate) fn rows_hold_over_both(alloc: Global, check: Check, rows: &str) -> Result<(), Fail> {
+    rows_hold_over(alloc, check, rows, false)?;
+    rows_hold_over(alloc, check, rows, true)
 }

@@ -1,15 +1,12 @@
 //! The next token of a tag, as what a plug-in expects, and what is left after it.
-use crate::languages::{Check, check_language};
+use crate::languages::{Check, language_rows_hold};
 use crate::rows::texts_at;
 use crate::tokens::{joined, tokens_of};
 use crate::told::{is_answer, is_done, is_name};
-use liquid_core::parser::{
-    Language, ParseBlock, ParseFilter, ParseTag, PluginRegistry, TagTokenIter,
-};
-use liquid_core::runtime::Renderable;
+use liquid_core::parser::{ParseFilter, PluginRegistry, TagTokenIter};
 use std::alloc::Global;
 use std::test::Fail;
-use tests_lines::{Line, is_text, rows_hold};
+use tests_lines::{Line, is_text};
 
 const MISSING: &str = "Token expected";
 
@@ -56,7 +53,11 @@ fn next_and_rest_are<F: ParseFilter + Drop>(
 
 /// Returns `true` if the next token of a row's tag is what the row says, or has the row's error, and the same tokens
 /// are left.
-fn is_taken<F: ParseFilter + Drop>(alloc: Global, row: &Line, filters: &PluginRegistry<F>) -> bool {
+pub(crate) fn is_taken<F: ParseFilter + Drop>(
+    alloc: Global,
+    row: &Line,
+    filters: &PluginRegistry<F>,
+) -> bool {
     match (texts_at(row, 0, 1), texts_at(row, 2, 3)) {
         (Some(given), Some(wanted)) => next_and_rest_are(alloc, given, wanted, filters),
         _ => false,
@@ -85,27 +86,7 @@ static ROWS: &str = r#"["identifier", "{% t a b %}", "a", "b"]
 ["chain", "{% t (1..2) %}", "liquid: Unexpected token (line 1, column 6)", "(1..2)"]
 ["chain", "{% t %}", "liquid: Token expected (line 1, column 5)", ""]"#;
 
-/// The next token is taken as what is expected.
-struct TakenTokens;
-
-impl Check for TakenTokens {
-    fn check<F, T, B>(&self, alloc: Global, language: &Language<F, T, B>) -> Result<(), Fail>
-    where
-        F: ParseFilter + Drop,
-        T: ParseTag<F> + Drop,
-        B: ParseBlock<F> + Drop,
-        T::Node: Renderable<()>,
-        B::Node: Renderable<()>,
-    {
-        rows_hold(
-            alloc,
-            ROWS,
-            |alloc, row| is_taken(alloc, row, &language.filters),
-        )
-    }
-}
-
 #[test]
 fn the_next_token_is_taken_as_what_is_expected(rt: HostRuntime) -> Result<(), Fail> {
-    check_language(rt.alloc(), &TakenTokens)
+    language_rows_hold(rt.alloc(), Check::NextToken, ROWS)
 }

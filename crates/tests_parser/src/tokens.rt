@@ -31,26 +31,24 @@ pub(crate) fn joined(
     texts.join(alloc, " / ")
 }
 
-/// Takes an attempt. Returns the letter, if it matches.
-fn letter<A: Drop>(attempt: TryMatchToken<'_, A>, letter: &'static str) -> &'static str {
+/// Returns `true` if a token was tried, and whether it matches is as wanted.
+fn is_match<A: Drop>(attempt: Result<TryMatchToken<'_, A>, AllocError>, is_wanted: bool) -> bool {
     match attempt {
-        TryMatchToken::Matches(found) => {
-            drop(found);
-            letter
-        }
-        TryMatchToken::Fails(_) => "",
+        Ok(TryMatchToken::Matches(_)) => is_wanted,
+        Ok(TryMatchToken::Fails(_)) => !is_wanted,
+        Err(_) => false,
     }
 }
 
-/// Returns a letter for each attempt that matches the token.
-fn kinds(alloc: Global, token: TagToken<'_>) -> Result<String, AllocError> {
-    let identifier = letter(token.expect_identifier(), "i");
-    let variable = letter(token.expect_variable(alloc)?, "v");
-    let literal = letter(token.expect_literal(alloc)?, "l");
-    let value = letter(token.expect_value(alloc)?, "e");
-    let range = letter(token.expect_range(alloc)?, "r");
-    let equality = letter(token.expect_str("=="), "s");
-    format!(in alloc; "{identifier}{variable}{literal}{value}{range}{equality}")
+/// Returns `true` if a token is what the letters say: an identifier, a variable, a literal, an expression, a range or the
+/// text `==`.
+fn has_kinds(alloc: Global, token: TagToken<'_>, letters: &str) -> bool {
+    is_match(Ok(token.expect_identifier()), letters.contains("i"))
+        && is_match(token.expect_variable(alloc), letters.contains("v"))
+        && is_match(token.expect_literal(alloc), letters.contains("l"))
+        && is_match(token.expect_value(alloc), letters.contains("e"))
+        && is_match(token.expect_range(alloc), letters.contains("r"))
+        && is_match(Ok(token.expect_str("==")), letters.contains("s"))
 }
 
 /// Returns `true` if these are the tokens of a tag, or its error.
@@ -87,7 +85,7 @@ pub(crate) fn first_token(alloc: Global, text: &str) -> Result<TagToken<'_>, Err
 /// Returns `true` if a token has the kinds of some letters, and is raised as an error.
 fn is_kind(alloc: Global, token: TagToken<'_>, letters: &str) -> bool {
     let refusal = "liquid: Unexpected token (line 1, column 6)";
-    is_text(kinds(alloc, token), letters) && tells(alloc, &token.raise_error(alloc), refusal)
+    has_kinds(alloc, token, letters) && tells(alloc, &token.raise_error(alloc), refusal)
 }
 
 /// Returns `true` if an error is that of a token that is missing at a column.
