@@ -6,4 +6,4 @@ mod boxes;
 mod seen;
 
 pub use boxes::{MOST, taken};
-pub use seen::{Run, Seen, Told};
+pub use seen::{Run, Seen, Verdict};

@@ -49,7 +49,7 @@ fn write_outcome<D: Display>(rt: &HostRuntime, case: &str, outcome: &D) -> Resul
 }
 
 /// Makes the call of a case, and writes its outcome.
-fn tell(rt: &HostRuntime, case: &str) -> Result<(), Problem> {
+fn write_case(rt: &HostRuntime, case: &str) -> Result<(), Problem> {
     match tried(rt.alloc(), case) {
         Ok(seen) => write_outcome(rt, case, &seen),
         Err(problem) => write_outcome(rt, case, &problem),
@@ -57,23 +57,23 @@ fn tell(rt: &HostRuntime, case: &str) -> Result<(), Problem> {
 }
 
 /// Makes the call of a line, and writes its outcome.
-fn tell_line(rt: &HostRuntime, line: io::Result<String>) -> Result<(), Problem> {
+fn write_line(rt: &HostRuntime, line: io::Result<String>) -> Result<(), Problem> {
     match line {
-        Ok(case) => tell(rt, case.as_str()),
+        Ok(case) => write_case(rt, case.as_str()),
         Err(error) => Err(Problem::from(error)),
     }
 }
 
 fn serve_arguments(rt: &HostRuntime) -> Result<(), Problem> {
     for case in env::args(rt)?.skip(1) {
-        tell(rt, case.as_str())?;
+        write_case(rt, case.as_str())?;
     }
     Ok(())
 }
 
 fn serve_lines(rt: &HostRuntime) -> Result<(), Problem> {
     for line in rt.lines(rt.alloc()) {
-        tell_line(rt, line)?;
+        write_line(rt, line)?;
     }
     Ok(())
 }

@@ -3,8 +3,8 @@ use liquid_core::{DateError, Error};
 use std::alloc::{AllocError, AllocFailed};
 use std::io;
 
-/// Why a case has no outcome. If an allocation of the set-up failed, that is the reason.
-#[derive(Debug, Drop, thiserror::Error)]
+/// Why a case has no outcome. A problem holds nothing, so a function that returns one drops nothing for it.
+#[derive(Debug, Clone, Copy, PartialEq, Eq, thiserror::Error)]
 pub enum Problem {
     /// The line does not name a row and a call.
     #[error("no case")]
@@ -15,34 +15,59 @@ pub enum Problem {
     /// The call can't be made with this row, whose text has an error when it is parsed.
     #[error("no tree")]
     NoTree,
-    /// The set-up had an error.
+    /// The set-up had an error, or was out of memory.
     #[error("set-up refused")]
-    Refused(#[from] Error),
-    /// The date of the set-up does not exist.
-    #[error("set-up refused")]
-    Date(#[from] DateError),
-    /// The set-up was out of memory.
-    #[error("set-up refused")]
-    Memory(#[from] AllocError),
-    /// The JSON of the set-up is not JSON, or memory ran out.
-    #[error("set-up refused")]
-    Json(#[from] serde_json::Error),
+    Refused,
     /// An input or an output failed.
     #[error("a stream failed")]
-    Failed(#[from] io::Error),
+    Failed,
+}
+
+impl From<Error> for Problem {
+    fn from(error: Error) -> Problem {
+        drop(error);
+        Problem::Refused
+    }
+}
+
+impl From<DateError> for Problem {
+    fn from(error: DateError) -> Problem {
+        drop(error);
+        Problem::Refused
+    }
+}
+
+impl From<AllocError> for Problem {
+    fn from(_: AllocError) -> Problem {
+        Problem::Refused
+    }
 }
 
 impl<T: Drop> From<AllocFailed<T>> for Problem {
     fn from(failed: AllocFailed<T>) -> Problem {
         drop(failed);
-        Problem::Memory(AllocError)
+        Problem::Refused
+    }
+}
+
+impl From<serde_json::Error> for Problem {
+    fn from(error: serde_json::Error) -> Problem {
+        drop(error);
+        Problem::Refused
+    }
+}
+
+impl From<io::Error> for Problem {
+    fn from(error: io::Error) -> Problem {
+        drop(error);
+        Problem::Failed
     }
 }
 
 /// Returns both results, or the first problem.
 ///
-/// Whoever calls it holds no value where another call may fail. A check reads what goes out of scope there part by part,
-/// once for each such place, and reads a call of `drop` only once.
+/// A function that calls it holds no value where another call may fail. A check reads what goes out of scope there part by
+/// part, once for each such place, and reads a call of `drop` only once.
 pub fn both<A: Drop, B: Drop>(
     first: Result<A, Problem>,
     second: Result<B, Problem>,

@@ -1,5 +1,5 @@
 //! The standard filters: a call for each, by its name.
-use crate::growths::{MOST, Run, Seen, Told, taken};
+use crate::growths::{MOST, Run, Seen, Verdict, taken};
 use crate::problem::{Problem, both};
 use liquid_core::Error;
 use liquid_core::model::{Value, ValueCow, ValueRender, to_value};
@@ -151,20 +151,28 @@ fn arguments(alloc: Global, json: &str) -> Result<Vec<ValueCow<'static>>, Proble
 }
 
 /// Compares a value's text with the one that is wanted.
-fn value_told(alloc: Global, value: Value, wanted: &str) -> Result<Told, Problem> {
+fn value_verdict(alloc: Global, value: Value, wanted: &str) -> Result<Verdict, Problem> {
     let text = ValueRender::new(&value).to_string(alloc);
     drop(value);
-    Ok(Told::Whole.only_if(text?.as_str() == wanted))
+    Ok(Verdict::Whole.only_if(text?.as_str() == wanted))
 }
 
 /// Compares a result with the text that is wanted.
-fn told(alloc: Global, answer: Result<Value, Error>, wanted: &str) -> Result<Told, Problem> {
+fn verdict_of(
+    alloc: Global,
+    answer: Result<Value, Error>,
+    wanted: &str,
+) -> Result<Verdict, Problem> {
     match answer {
-        Ok(value) => value_told(alloc, value, wanted),
+        Ok(value) => value_verdict(alloc, value, wanted),
         Err(error) => {
             let is_memory = error.is_memory();
             drop(error);
-            Ok(if is_memory { Told::Memory } else { Told::Other })
+            Ok(if is_memory {
+                Verdict::Memory
+            } else {
+                Verdict::Other
+            })
         }
     }
 }
@@ -185,11 +193,11 @@ fn run(
     let before = taken(alloc, boxes);
     let answered = kind.answer(alloc, input, &arguments);
     let after = taken(alloc, MOST);
-    let told = told(alloc, answered, wanted)?;
+    let verdict = verdict_of(alloc, answered, wanted)?;
     Ok(Run {
         before,
         after,
-        told,
+        verdict,
     })
 }
 

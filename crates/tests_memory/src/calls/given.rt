@@ -92,7 +92,7 @@ pub fn runtime(alloc: Global) -> Result<Built, Problem> {
 
 fn error(alloc: Global) -> Result<Error, Problem> {
     match Error::with_msg(alloc, "a") {
-        Error::Memory => Err(Problem::Refused(Error::Memory)),
+        Error::Memory => Err(Problem::Refused),
         error => Ok(error),
     }
 }

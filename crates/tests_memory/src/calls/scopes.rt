@@ -2,7 +2,7 @@
 ghost use Rattle.std.specs.Prelude.{◌≡◌};
 
 use crate::calls::given::{object, runtime, text};
-use crate::growths::{MOST, Seen, Told, taken};
+use crate::growths::{MOST, Seen, Verdict, taken};
 use crate::problem::{Problem, both};
 use liquid_core::model::{ScalarCow, Value};
 use liquid_core::runtime::{ChainedScopes, FlatScopes, Frame, Looks, Runtime, Scopes};
@@ -11,11 +11,11 @@ use std::alloc::{AllocError, Global};
 use std::collections::BTreeSet;
 
 /// Classifies a result: `Whole` needs the first condition, and `Memory` the second.
-fn told<T: Drop>(answer: Result<T, Error>, is_made: bool, stands: bool) -> Told {
+fn verdict_of<T: Drop>(answer: Result<T, Error>, is_made: bool, is_unchanged: bool) -> Verdict {
     match answer {
-        Ok(_) => Told::Whole.only_if(is_made),
-        Err(Error::Memory) => Told::Memory.only_if(stands),
-        Err(_) => Told::Other,
+        Ok(_) => Verdict::Whole.only_if(is_made),
+        Err(Error::Memory) => Verdict::Memory.only_if(is_unchanged),
+        Err(_) => Verdict::Other,
     }
 }
 
@@ -33,18 +33,18 @@ fn frame(alloc: Global, is_isolated: bool) -> Result<Frame, Problem> {
 }
 
 /// Begins a frame, and ends it again.
-fn pushed<S: Scopes>(scopes: &mut S, frame: Frame) -> Told
+fn pushed<S: Scopes>(scopes: &mut S, frame: Frame) -> Verdict
     ensures owes { S.restores scopes.new ≡ S.restores scopes.old }
 {
     match scopes.push(frame) {
         Ok(()) => {
             let is_begun = scopes.frames() == 1 && scopes.try_get_name("own").is_some();
             scopes.pop();
-            Told::Whole.only_if(is_begun)
+            Verdict::Whole.only_if(is_begun)
         }
         Err(error) => {
-            let stands = scopes.frames() == 0 && scopes.try_get_name("own").is_none();
-            told::<()>(Err(error), false, stands)
+            let is_unchanged = scopes.frames() == 0 && scopes.try_get_name("own").is_none();
+            verdict_of::<()>(Err(error), false, is_unchanged)
         }
     }
 }
@@ -72,7 +72,7 @@ where
 }
 
 /// Sets `n`, which has no value yet.
-fn set<S: Scopes>(scopes: &mut S, word: &str, name: String) -> Told
+fn set<S: Scopes>(scopes: &mut S, word: &str, name: String) -> Verdict
     ensures owes { S.restores scopes.new ≡ S.restores scopes.old }
 {
     let value = Value::scalar(2i64);
@@ -81,7 +81,7 @@ fn set<S: Scopes>(scopes: &mut S, word: &str, name: String) -> Told
         _ => scopes.set_index(name, value),
     };
     let is_set = scopes.get_index("n").is_some() || scopes.try_get_name("n").is_some();
-    told(answer, is_set, !is_set)
+    verdict_of(answer, is_set, !is_set)
 }
 
 /// Sets a name after that many boxes, and then once more.
@@ -107,14 +107,14 @@ where
 }
 
 /// Classifies the names that are seen over the globals.
-fn roots_told(roots: Result<BTreeSet<String>, AllocError>) -> Told {
+fn roots_verdict(roots: Result<BTreeSet<String>, AllocError>) -> Verdict {
     match roots {
         Ok(names) => {
             let is_whole = names.len() == 2 && names.contains("a") && names.contains("i");
             drop(names);
-            Told::Whole.only_if(is_whole)
+            Verdict::Whole.only_if(is_whole)
         }
-        Err(_) => Told::Memory,
+        Err(_) => Verdict::Memory,
     }
 }
 
@@ -128,8 +128,8 @@ where
     let before = taken(alloc, boxes);
     let answer = scopes.roots(alloc);
     let after = taken(alloc, MOST);
-    let first = roots_told(answer);
-    let next = roots_told(scopes.roots(alloc));
+    let first = roots_verdict(answer);
+    let next = roots_verdict(scopes.roots(alloc));
     let base = scopes.into_base();
     drop(base);
     Ok(Seen {
@@ -141,17 +141,17 @@ where
 }
 
 /// Classifies the size of the only member of `a`.
-fn size_told(found: Result<Option<ValueCow<'_>>, AllocError>) -> Told {
+fn size_verdict(found: Result<Option<ValueCow<'_>>, AllocError>) -> Verdict {
     match found {
         Ok(Some(value)) => {
             let one = Value::scalar(1i64);
             let is_one = *value.as_view() == one;
             drop(one);
             drop(value);
-            Told::Whole.only_if(is_one)
+            Verdict::Whole.only_if(is_one)
         }
-        Ok(None) => Told::Other,
-        Err(_) => Told::Memory,
+        Ok(None) => Verdict::Other,
+        Err(_) => Verdict::Memory,
     }
 }
 
@@ -166,9 +166,9 @@ where
     let before = taken(alloc, boxes);
     let found = scopes.seek(alloc, &path, &mut looks);
     let after = taken(alloc, MOST);
-    let first = size_told(found);
+    let first = size_verdict(found);
     let mut looks = Looks::new();
-    let next = size_told(scopes.seek(alloc, &path, &mut looks));
+    let next = size_verdict(scopes.seek(alloc, &path, &mut looks));
     let base = scopes.into_base();
     drop(base);
     Ok(Seen {

@@ -4,7 +4,7 @@ use crate::calls::given::Given;
 use crate::calls::texts::extended;
 use crate::calls::wanted::wanted;
 use crate::calls::{dates, errors, filters, json_calls, paths, plugins, runtimes, scopes, values};
-use crate::growths::{MOST, Run, Seen, Told, taken};
+use crate::growths::{MOST, Run, Seen, Verdict, taken};
 use crate::problem::Problem;
 use std::alloc::Global;
 
@@ -66,12 +66,12 @@ fn answer<'g>(alloc: Global, call: Call<'_>, given: &'g mut Given) -> Answer<'g>
 }
 
 /// Compares a result's text with the one that is wanted.
-fn told(alloc: Global, answer: Answer<'_>, wanted: &str) -> Result<Told, Problem> {
+fn verdict_of(alloc: Global, answer: Answer<'_>, wanted: &str) -> Result<Verdict, Problem> {
     let shown = shown(alloc, &answer);
     drop(answer);
     match shown? {
-        None => Ok(Told::Memory),
-        Some(text) => Ok(Told::Whole.only_if(text.as_str() == wanted)),
+        None => Ok(Verdict::Memory),
+        Some(text) => Ok(Verdict::Whole.only_if(text.as_str() == wanted)),
     }
 }
 
@@ -85,7 +85,12 @@ fn is_among(text: &str, texts: &[&str]) -> bool {
 }
 
 /// Returns `true` if what the call may change is as before, or what it extends is one of the beginnings.
-fn stands(alloc: Global, call: Call<'_>, given: &Given, as_before: &str) -> Result<bool, Problem> {
+fn is_unchanged(
+    alloc: Global,
+    call: Call<'_>,
+    given: &Given,
+    as_before: &str,
+) -> Result<bool, Problem> {
     let parts = beginnings(call.word);
     if parts.is_empty() {
         Ok(given.shown(alloc)?.as_str() == as_before)
@@ -105,12 +110,12 @@ fn run(
     let before = taken(alloc, boxes);
     let answered = answer(alloc, call, given);
     let after = taken(alloc, MOST);
-    let told = told(alloc, answered, call.wanted)?;
-    let stands = stands(alloc, call, given, as_before)?;
+    let verdict = verdict_of(alloc, answered, call.wanted)?;
+    let is_unchanged = is_unchanged(alloc, call, given, as_before)?;
     Ok(Run {
         before,
         after,
-        told: told.only_if(told != Told::Memory || stands),
+        verdict: verdict.only_if(verdict != Verdict::Memory || is_unchanged),
     })
 }
 
@@ -120,13 +125,18 @@ fn run_again(alloc: Global, call: Call<'_>, given: &mut Given) -> Result<Run, Pr
     Ok(Run {
         before: None,
         after: None,
-        told: told(alloc, answered, call.wanted)?,
+        verdict: verdict_of(alloc, answered, call.wanted)?,
     })
 }
 
 /// Makes the call once more, with what it took whole if it was out of memory, and else with all that it is given.
-fn run_next(alloc: Global, call: Call<'_>, given: &mut Given, first: Told) -> Result<Run, Problem> {
-    if first == Told::Memory && beginnings(call.word).is_empty() {
+fn run_next(
+    alloc: Global,
+    call: Call<'_>,
+    given: &mut Given,
+    first: Verdict,
+) -> Result<Run, Problem> {
+    if first == Verdict::Memory && beginnings(call.word).is_empty() {
         given.refresh(alloc)?;
         return run_again(alloc, call, given);
     }
@@ -142,7 +152,7 @@ fn seen(alloc: Global, call: Call<'_>, given: &mut Given, boxes: usize) -> Resul
     let first = run(alloc, call, given, as_before.as_str(), boxes);
     drop(as_before);
     let first = first?;
-    let next = run_next(alloc, call, given, first.told);
+    let next = run_next(alloc, call, given, first.verdict);
     Seen::of(Ok(first), next)
 }
 

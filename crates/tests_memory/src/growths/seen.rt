@@ -1,10 +1,10 @@
 //! The outcome of a call in which one allocation may fail.
-use crate::problem::{Problem, both};
+use crate::problem::Problem;
 use std::fmt;
 
 /// What one result of a call is.
 #[derive(Clone, Copy, Debug, PartialEq, Eq)]
-pub enum Told {
+pub enum Verdict {
     /// Out of memory, with everything in a state that is then allowed.
     Memory,
     /// Exactly the row's result.
@@ -13,50 +13,50 @@ pub enum Told {
     Other,
 }
 
-impl Told {
+impl Verdict {
     /// Returns what two results are together.
-    pub fn and(self, other: Told) -> Told {
+    pub fn and(self, other: Verdict) -> Verdict {
         match (self, other) {
-            (Told::Other, _) | (_, Told::Other) => Told::Other,
-            (Told::Memory, _) | (_, Told::Memory) => Told::Memory,
-            (Told::Whole, Told::Whole) => Told::Whole,
+            (Verdict::Other, _) | (_, Verdict::Other) => Verdict::Other,
+            (Verdict::Memory, _) | (_, Verdict::Memory) => Verdict::Memory,
+            (Verdict::Whole, Verdict::Whole) => Verdict::Whole,
         }
     }
 
     /// Returns the same, or something else if a condition for it is not true.
-    pub fn only_if(self, holds: bool) -> Told {
-        if holds { self } else { Told::Other }
+    pub fn only_if(self, holds: bool) -> Verdict {
+        if holds { self } else { Verdict::Other }
     }
 }
 
 /// The result of one call, and how many boxes were allocated before one failed, before the call and after it, or `None`
 /// if no box failed there.
-#[derive(Drop)]
+#[derive(Clone, Copy)]
 pub struct Run {
     pub before: Option<usize>,
     pub after: Option<usize>,
-    pub told: Told,
+    pub verdict: Verdict,
 }
 
 /// The results of a call that is made twice, and where the one failure was: how many boxes were allocated before one
 /// failed, before the first call and after it, or `None` if no box failed there.
-#[derive(Drop)]
+#[derive(Clone, Copy)]
 pub struct Seen {
     pub before: Option<usize>,
     pub after: Option<usize>,
-    pub first: Told,
-    pub next: Told,
+    pub first: Verdict,
+    pub next: Verdict,
 }
 
 impl Seen {
     /// Returns what two runs of a call came to, or the first problem.
     pub fn of(first: Result<Run, Problem>, next: Result<Run, Problem>) -> Result<Seen, Problem> {
-        let (first, next) = both(first, next)?;
+        let (first, next) = (first?, next?);
         Ok(Seen {
             before: first.before,
             after: first.after,
-            first: first.told,
-            next: next.told,
+            first: first.verdict,
+            next: next.verdict,
         })
     }
 
@@ -65,11 +65,11 @@ impl Seen {
     fn holds(&self) -> bool {
         let is_cause = self.before.is_none() && self.after.is_none();
         let first = match self.first {
-            Told::Memory => is_cause,
-            Told::Whole => true,
-            Told::Other => false,
+            Verdict::Memory => is_cause,
+            Verdict::Whole => true,
+            Verdict::Other => false,
         };
-        first && self.next == Told::Whole
+        first && self.next == Verdict::Whole
     }
 }
 
@@ -81,7 +81,10 @@ impl fmt::Display for Seen {
         match (self.before, self.after) {
             (Some(count), _) => write!(f, "refused in front of it, after {count} boxes"),
             (None, Some(count)) => write!(f, "refused after it, after {count} boxes"),
-            (None, None) if self.first == Told::Memory => write!(f, "refused in it, out of memory"),
+            (None, None) if self.first == Verdict::Memory => write!(
+                f,
+                "refused in it, out of memory"
+            ),
             (None, None) => write!(f, "refused in it or never, whole answer"),
         }
     }

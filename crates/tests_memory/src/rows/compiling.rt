@@ -1,8 +1,8 @@
 //! Compiling a row's partials.
-use crate::growths::{MOST, Run, Seen, Told, taken};
+use crate::growths::{MOST, Run, Seen, Verdict, taken};
 use crate::problem::{Problem, both};
 use crate::rows::row::Row;
-use crate::rows::stores::{OfSource, Request, all_told, compiler};
+use crate::rows::stores::{OfSource, Request, all_verdict, compiler};
 use liquid_core::parser::{Language, ParseBlock, ParseFilter, ParseTag};
 use liquid_core::partials::PartialCompiler;
 use liquid_core::runtime::Renderable;
@@ -11,11 +11,11 @@ use std::alloc::{AllocError, Global};
 use std::rc::Rc;
 
 /// Classifies a result of `compile`: a store is the row's if it has the row's results for its requests.
-fn store_told<S, X, T, B>(
+fn store_verdict<S, X, T, B>(
     alloc: Global,
     made: Result<S, AllocError>,
     requests: &[Request],
-) -> Result<Told, Problem>
+) -> Result<Verdict, Problem>
 where
     X: Filter,
     T: Renderable<()>,
@@ -23,11 +23,11 @@ where
     S: PartialStore<X, T, B> + Drop,
 {
     match made {
-        Err(_) => Ok(Told::Memory),
+        Err(_) => Ok(Verdict::Memory),
         Ok(mut store) => {
-            let told = all_told(alloc, &mut store, requests);
+            let verdict = all_verdict(alloc, &mut store, requests);
             drop(store);
-            told
+            verdict
         }
     }
 }
@@ -53,11 +53,11 @@ where
     let before = taken(alloc, boxes);
     let made = compiler.compile(alloc, language);
     let after = taken(alloc, MOST);
-    let told = store_told(alloc, made, requests)?;
+    let verdict = store_verdict(alloc, made, requests)?;
     Ok(Run {
         before,
         after,
-        told,
+        verdict,
     })
 }
 

@@ -3,7 +3,7 @@ ghost use Rattle.std.specs.Prelude.{◌≡◌};
 
 use crate::growths::{MOST, Run, Seen, taken};
 use crate::problem::{Problem, both};
-use crate::rows::pages::told;
+use crate::rows::pages::verdict_of;
 use crate::rows::row::Row;
 use liquid_core::model::{Object, Value};
 use liquid_core::runtime::{Frame, Renderable, Runtime, Scopes, Template};
@@ -53,13 +53,13 @@ where
     let before = taken(alloc, boxes);
     let answer = page.render_in(alloc, &mut sink, scopes);
     let after = taken(alloc, MOST);
-    let told = told(alloc, row, sink.as_bytes(), &answer);
+    let verdict = verdict_of(alloc, row, sink.as_bytes(), &answer);
     drop(answer);
     drop(sink);
     Ok(Run {
         before,
         after,
-        told: told?.only_if(has_its_frame(scopes)),
+        verdict: verdict?.only_if(has_its_frame(scopes)),
     })
 }
 
@@ -111,7 +111,7 @@ where
             scopes.pop();
             answer
         }
-        Err(error) => Err(Problem::Refused(error)),
+        Err(error) => Err(Problem::from(error)),
     };
     let base = scopes.into_base();
     drop(base);

@@ -1,5 +1,5 @@
 //! Templates of a row, and what they write.
-use crate::growths::{MOST, Run, Seen, Told, taken};
+use crate::growths::{MOST, Run, Seen, Verdict, taken};
 use crate::problem::Problem;
 use crate::rows::row::Row;
 use liquid_core::parser::{Language, ParseBlock, ParseFilter, ParseTag, parse};
@@ -27,7 +27,7 @@ where
 {
     match parse(alloc, row.template(), language) {
         Ok(nodes) => Ok(Template::new(nodes)),
-        Err(error) if error.is_memory() => Err(Problem::Refused(error)),
+        Err(error) if error.is_memory() => Err(Problem::Refused),
         Err(_) => Err(Problem::NoTree),
     }
 }
@@ -38,20 +38,20 @@ pub fn is_said(alloc: Global, error: &Error, text: &str) -> Result<bool, Problem
 }
 
 /// Compares a result and what was written before it with the row.
-pub fn told(
+pub fn verdict_of(
     alloc: Global,
     row: &Row,
     written: &[u8],
     answer: &Result<(), Error>,
-) -> Result<Told, Problem> {
+) -> Result<Verdict, Problem> {
     let wanted = row.written().as_bytes();
     match answer {
-        Err(error) if error.is_memory() => Ok(Told::Memory.only_if(wanted.starts_with(written))),
+        Err(error) if error.is_memory() => Ok(Verdict::Memory.only_if(wanted.starts_with(written))),
         Err(error) => {
             let is_said = is_said(alloc, error, row.error())?;
-            Ok(Told::Whole.only_if(is_said && wanted == written))
+            Ok(Verdict::Whole.only_if(is_said && wanted == written))
         }
-        Ok(()) => Ok(Told::Whole.only_if(row.error().is_empty() && wanted == written)),
+        Ok(()) => Ok(Verdict::Whole.only_if(row.error().is_empty() && wanted == written)),
     }
 }
 
@@ -74,13 +74,13 @@ where
     let before = taken(alloc, boxes);
     let answer = page.render_to(alloc, &mut sink, runtime);
     let after = taken(alloc, MOST);
-    let told = told(alloc, row, sink.as_bytes(), &answer);
+    let verdict = verdict_of(alloc, row, sink.as_bytes(), &answer);
     drop(answer);
     drop(sink);
     Ok(Run {
         before,
         after,
-        told: told?,
+        verdict: verdict?,
     })
 }
 

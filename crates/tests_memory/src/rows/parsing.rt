@@ -1,7 +1,7 @@
 //! Parsing a row's template.
-use crate::growths::{MOST, Run, Seen, Told, taken};
+use crate::growths::{MOST, Run, Seen, Verdict, taken};
 use crate::problem::{Problem, both};
-use crate::rows::pages::{Page, run_over, told};
+use crate::rows::pages::{Page, run_over, verdict_of};
 use crate::rows::row::Row;
 use crate::rows::stores::{OfSource, store};
 use liquid_core::Error;
@@ -16,12 +16,12 @@ type Nodes<F, T, B> = Vec<
 >;
 
 /// Classifies what a template writes over the row's globals.
-fn page_told<C, F, T, B>(
+fn page_verdict<C, F, T, B>(
     alloc: Global,
     row: &Row,
     language: &Rc<Language<F, T, B>>,
     page: &Page<F, T, B>,
-) -> Result<Told, Problem>
+) -> Result<Verdict, Problem>
 where
     F: ParseFilter + Drop,
     T: ParseTag<F> + Drop,
@@ -38,16 +38,16 @@ where
     let mut runtime = row.runtime(alloc, globals, store);
     let run = run_over(alloc, row, page, &mut runtime, 0);
     drop(runtime);
-    Ok(run?.told)
+    Ok(run?.verdict)
 }
 
 /// Classifies a result of `parse`: a tree is the row's if it writes what the row writes.
-fn read_told<C, F, T, B>(
+fn read_verdict<C, F, T, B>(
     alloc: Global,
     row: &Row,
     language: &Rc<Language<F, T, B>>,
     read: Result<Nodes<F, T, B>, Error>,
-) -> Result<Told, Problem>
+) -> Result<Verdict, Problem>
 where
     F: ParseFilter + Drop,
     T: ParseTag<F> + Drop,
@@ -60,15 +60,15 @@ where
     match read {
         Err(error) => {
             let answer = Err(error);
-            let told = told(alloc, row, b"", &answer);
+            let verdict = verdict_of(alloc, row, b"", &answer);
             drop(answer);
-            told
+            verdict
         }
         Ok(nodes) => {
             let page = Template::new(nodes);
-            let told = page_told::<C, F, T, B>(alloc, row, language, &page);
+            let verdict = page_verdict::<C, F, T, B>(alloc, row, language, &page);
             drop(page);
-            told
+            verdict
         }
     }
 }
@@ -92,11 +92,11 @@ where
     let before = taken(alloc, boxes);
     let read = parse(alloc, row.template(), language);
     let after = taken(alloc, MOST);
-    let told = read_told::<C, F, T, B>(alloc, row, language, read)?;
+    let verdict = read_verdict::<C, F, T, B>(alloc, row, language, read)?;
     Ok(Run {
         before,
         after,
-        told,
+        verdict,
     })
 }
 

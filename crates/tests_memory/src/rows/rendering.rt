@@ -1,8 +1,8 @@
 //! Rendering a row's template.
-use crate::growths::{MOST, Run, Seen, Told, taken};
+use crate::growths::{MOST, Run, Seen, Verdict, taken};
 use crate::problem::{Problem, both};
 use crate::rows::framing::framed;
-use crate::rows::pages::{Page, page, told};
+use crate::rows::pages::{Page, page, verdict_of};
 use crate::rows::row::Row;
 use crate::rows::stores::{OfSource, store};
 use liquid_core::model::{Object, Value, ValueRender};
@@ -68,7 +68,7 @@ fn given(alloc: Global, row: &Row, word: &str) -> Result<Object, Problem> {
 
 /// Returns `true` if a built runtime has the frames that it was built with: no name, its globals, its depth; and, if
 /// the call came to its end, what the row leaves.
-fn stands<R: Runtime>(
+fn has_its_frames<R: Runtime>(
     alloc: Global,
     row: &Row,
     word: &str,
@@ -91,10 +91,10 @@ fn came_to<R: Runtime>(
     runtime: &R,
     sink: &TextSink,
     answer: &Result<(), Error>,
-) -> Result<Told, Problem> {
-    let stands = stands(alloc, row, word, runtime, answer.is_ok())?;
-    let told = told(alloc, row, sink.as_bytes(), answer)?;
-    Ok(told.only_if(stands))
+) -> Result<Verdict, Problem> {
+    let is_so = has_its_frames(alloc, row, word, runtime, answer.is_ok())?;
+    let verdict = verdict_of(alloc, row, sink.as_bytes(), answer)?;
+    Ok(verdict.only_if(is_so))
 }
 
 /// Renders over a runtime, in a sandbox of what is given or in isolation.
@@ -144,13 +144,13 @@ where
     let before = taken(alloc, boxes);
     let answer = render(alloc, word, page, &mut sink, runtime, given);
     let after = taken(alloc, MOST);
-    let told = came_to(alloc, row, word, runtime, &sink, &answer);
+    let verdict = came_to(alloc, row, word, runtime, &sink, &answer);
     drop(answer);
     drop(sink);
     Ok(Run {
         before,
         after,
-        told: told?,
+        verdict: verdict?,
     })
 }
 

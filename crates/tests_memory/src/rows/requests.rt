@@ -1,8 +1,8 @@
 //! Requests to stores.
-use crate::growths::{MOST, Run, Seen, Told, taken};
+use crate::growths::{MOST, Run, Seen, Verdict, taken};
 use crate::problem::{Problem, both};
 use crate::rows::row::Row;
-use crate::rows::stores::{OfSource, Request, all_told, request_told, store};
+use crate::rows::stores::{OfSource, Request, all_verdict, request_verdict, store};
 use liquid_core::parser::{Language, ParseBlock, ParseFilter, ParseTag};
 use liquid_core::partials::{InMemorySource, PartialCompiler};
 use liquid_core::runtime::{Renderable, Template};
@@ -81,30 +81,30 @@ where
 
 /// Returns `true` if the name is kept as it should be: an out-of-memory error changes nothing, and otherwise a name is
 /// kept exactly if the store has it.
-fn is_kept_so<X, T, B>(answered: &Answered<X, T, B>, told: Told, is_there: bool) -> bool {
+fn is_kept_so<X, T, B>(answered: &Answered<X, T, B>, verdict: Verdict, is_there: bool) -> bool {
     match answered.kept_after {
         None => true,
-        Some(kept) if told == Told::Memory => answered.kept_before == Some(kept),
+        Some(kept) if verdict == Verdict::Memory => answered.kept_before == Some(kept),
         Some(kept) => kept == is_there,
     }
 }
 
 /// Returns what one result is, with what the store has then.
-fn one_told<S, X, T, B>(
+fn one_verdict<S, X, T, B>(
     alloc: Global,
     store: &S,
     request: &Request,
     answered: &Answered<X, T, B>,
-) -> Result<Told, Problem>
+) -> Result<Verdict, Problem>
 where
     X: Filter,
     T: Renderable<()>,
     B: Renderable<()>,
     S: PartialStore<X, T, B>,
 {
-    let told = request_told(alloc, request, &answered.found)?;
+    let verdict = request_verdict(alloc, request, &answered.found)?;
     let is_there = store.contains(request.name.as_str());
-    Ok(told.only_if(is_kept_so(answered, told, is_there)))
+    Ok(verdict.only_if(is_kept_so(answered, verdict, is_there)))
 }
 
 /// Returns what all results are together.
@@ -113,16 +113,16 @@ fn together<S, X, T, B>(
     store: &S,
     requests: &[Request],
     answers: &[Answered<X, T, B>],
-) -> Result<Told, Problem>
+) -> Result<Verdict, Problem>
 where
     X: Filter,
     T: Renderable<()>,
     B: Renderable<()>,
     S: PartialStore<X, T, B>,
 {
-    let mut all = Told::Whole.only_if(requests.len() == answers.len());
+    let mut all = Verdict::Whole.only_if(requests.len() == answers.len());
     for (request, answered) in requests.iter().zip(answers) {
-        all = all.and(one_told(alloc, store, request, answered)?);
+        all = all.and(one_verdict(alloc, store, request, answered)?);
     }
     Ok(all)
 }
@@ -144,11 +144,11 @@ where
     let before = taken(alloc, boxes);
     ask(alloc, store, requests, answers)?;
     let after = taken(alloc, MOST);
-    let told = together(alloc, store, requests, answers.as_slice())?;
+    let verdict = together(alloc, store, requests, answers.as_slice())?;
     Ok(Run {
         before,
         after,
-        told,
+        verdict,
     })
 }
 
@@ -160,11 +160,11 @@ where
     B: Renderable<()>,
     S: PartialStore<X, T, B>,
 {
-    let told = all_told(alloc, store, requests)?;
+    let verdict = all_verdict(alloc, store, requests)?;
     Ok(Run {
         before: None,
         after: None,
-        told,
+        verdict,
     })
 }
 

@@ -1,6 +1,6 @@
 //! The stores of a row's partials.
 use crate::built::built;
-use crate::growths::Told;
+use crate::growths::Verdict;
 use crate::problem::Problem;
 use crate::rows::pages::is_said;
 use crate::rows::row::Row;
@@ -130,11 +130,11 @@ where
 }
 
 /// Compares the result of a store for a request with the row's.
-pub fn request_told<X, T, B>(
+pub fn request_verdict<X, T, B>(
     alloc: Global,
     request: &Request,
     found: &Result<Rc<Template<X, T, B>>, Error>,
-) -> Result<Told, Problem>
+) -> Result<Verdict, Problem>
 where
     X: Filter,
     T: Renderable<()>,
@@ -142,15 +142,19 @@ where
 {
     let wanted = request.answer.as_str();
     let is_whole = match found {
-        Err(error) if error.is_memory() => return Ok(Told::Memory),
+        Err(error) if error.is_memory() => return Ok(Verdict::Memory),
         Err(error) => is_said(alloc, error, wanted),
         Ok(page) => is_shown(alloc, page, wanted),
     };
-    Ok(Told::Whole.only_if(is_whole?))
+    Ok(Verdict::Whole.only_if(is_whole?))
 }
 
 /// Requests one name from a store, and compares the result with the row's.
-fn one_told<S, X, T, B>(alloc: Global, store: &mut S, request: &Request) -> Result<Told, Problem>
+fn one_verdict<S, X, T, B>(
+    alloc: Global,
+    store: &mut S,
+    request: &Request,
+) -> Result<Verdict, Problem>
 where
     X: Filter,
     T: Renderable<()>,
@@ -158,26 +162,26 @@ where
     S: PartialStore<X, T, B>,
 {
     let found = store.get(alloc, request.name.as_str());
-    let told = request_told(alloc, request, &found);
+    let verdict = request_verdict(alloc, request, &found);
     drop(found);
-    told
+    verdict
 }
 
 /// Compares the results of a store for all requests, one after another, with the row's.
-pub fn all_told<S, X, T, B>(
+pub fn all_verdict<S, X, T, B>(
     alloc: Global,
     store: &mut S,
     requests: &[Request],
-) -> Result<Told, Problem>
+) -> Result<Verdict, Problem>
 where
     X: Filter,
     T: Renderable<()>,
     B: Renderable<()>,
     S: PartialStore<X, T, B>,
 {
-    let mut all = Told::Whole;
+    let mut all = Verdict::Whole;
     for request in requests {
-        all = all.and(one_told(alloc, store, request)?);
+        all = all.and(one_verdict(alloc, store, request)?);
     }
     Ok(all)
 }
