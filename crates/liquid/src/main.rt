@@ -35,7 +35,7 @@ fn say(rt: &HostRuntime, text: &str) -> Result<u8, Fault<'static>> {
 /// Runs the words over the machine's files and streams, with the output collected in a buffer.
 fn serve(rt: &HostRuntime) -> Result<u8, Fault<'static>> {
     let words = words(rt)?;
-    if let Some(text) = help::told(words.as_slice()) {
+    if let Some(text) = help::text_for(words.as_slice()) {
         return say(rt, text);
     }
     let output = rt.stdout();

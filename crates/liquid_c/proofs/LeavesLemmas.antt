@@ -39,7 +39,7 @@ use Rattle.liquid_pages.specs.meaning.Shown.{Page, Begins, Shows}
 use Rattle.liquid_pages.specs.declared.fault.PageText.{PageText}
 use Rattle.liquid_pages.specs.declared.fault.PageText.TheVariants.{Template, Globals, PartialName, PartialText}
 use Rattle.liquid_c.specs.declared.page.Outcome.{Outcome}
-use Rattle.liquid_c.specs.meaning.Outcomes.{IsPlaced, IsWhere, IsWhich, Leaves, Tells, kind_of}
+use Rattle.liquid_c.specs.meaning.Outcomes.{IsPlaced, IsWhere, IsWhich, Leaves, Reports, kind_of}
 
 -- the outcome of a fault, or of memory that ran out
 abbrev pub Ends : Option Fault → Outcome → Type 0
@@ -121,9 +121,9 @@ nothing_left page old new o kind needed written same =
 
 module _ (page : Page) (bytes old new : List ℕ) (o : Outcome) where
   fault_ends : (t : Option Fault) → MatchOption t (Begins bytes page) (λ f. (bytes ≡ page.output) × (page.fault ≡ Some f)) → Ends t o
-      → ((o.kind ≡ 6) × Begins bytes page) ⊎ ((bytes ≡ page.output) × Tells page.fault (length old) o)
+      → ((o.kind ≡ 6) × Begins bytes page) ⊎ ((bytes ≡ page.output) × Reports page.fault (length old) o)
   fault_ends None begins ends = inl (ends, begins)
-  fault_ends (Some f) shows ends = inr (shows.0, subst (λ t. Tells t (length old) o) (sym shows.1) ends)
+  fault_ends (Some f) shows ends = inr (shows.0, subst (λ t. Reports t (length old) o) (sym shows.1) ends)
 
 -- the bytes that were rendered of a page
 module _ (page : Page) (bytes taken old new : List ℕ) (end : Result (Unit {0}) PageFault) (same : bytes ≡ taken)
@@ -145,7 +145,7 @@ module _ (page : Page) (bytes taken old new : List ℕ) (end : Result (Unit {0})
         needed = needed;
         written = written;
         bytes = copied;
-        ends = inr (shown.0, subst (λ t. Tells t (length old) o) (sym shown.1) (kind, place));
+        ends = inr (shown.0, subst (λ t. Reports t (length old) o) (sym shown.1) (kind, place));
       }
 
   -- those before a fault

@@ -91,7 +91,7 @@ brought : (file : Option (List ℕ)) (text : String Global) → ReadText file (O
 brought None text read = absurd read
 brought (Some bytes) text read = brought_case bytes (is_utf8 bytes) text refl read
 
--- globals that are no text
+-- globals that are not text
 pub globals_unread : (file : Option (List ℕ)) (path : List ℕ) (fault : Fault) → ReportsSome (text_trouble path file) fault
     → ReportsSome (globals_trouble path file) fault
 globals_unread file path fault (inl is) =

@@ -41,7 +41,7 @@ Of several pages it is the first status that is not 0.
 ";
 
 /// Returns the text that the words ask for, if it is the version or the help.
-pub fn told(words: &[String]) -> Option<&'static str>
+pub fn text_for(words: &[String]) -> Option<&'static str>
     ensures { IfSome result (λ _. is_asked (map string_bytes words.now) ≡ false) }
 {
     let [word] = words else {

@@ -22,7 +22,7 @@ static POSTS: [u32; 4] = [1250, 2500, 5000, 10_000];
 static FRAMES: [u32; 4] = [1, 10, 100, 1000];
 
 /// Prints a line of a table: what was measured, and how many nanoseconds it took.
-fn told(
+fn print_time(
     rt: &HostRuntime,
     measure: &str,
     size: u32,
@@ -91,7 +91,7 @@ fn print_table(rt: &HostRuntime, measure: Measure) -> Result<(), Problem> {
     let (sizes, unit) = sizes_of(measure);
     for size in sizes {
         let time = time_of(rt, measure, *size)?;
-        told(rt, line_of(measure), *size, unit, time)?;
+        print_time(rt, line_of(measure), *size, unit, time)?;
     }
     Ok(())
 }

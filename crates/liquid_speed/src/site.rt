@@ -66,7 +66,7 @@ fn globals(alloc: Global, posts: u32) -> Result<Object, Error> {
     let text = globals_text(alloc, posts)?;
     match object_from_str(alloc, text.as_str()) {
         Ok(globals) => globals,
-        Err(_) => Err(Error::with_msg(alloc, "The globals are no JSON")),
+        Err(_) => Err(Error::with_msg(alloc, "The globals are not JSON")),
     }
 }
 

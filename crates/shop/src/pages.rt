@@ -238,7 +238,7 @@ fn goods(alloc: Global) -> Result<Object, Error>
 {
     match object_from_str(alloc, GOODS) {
         Ok(goods) => goods,
-        Err(_) => Err(Error::with_msg(alloc, "The goods are no JSON")),
+        Err(_) => Err(Error::with_msg(alloc, "The goods are not JSON")),
     }
 }
 

@@ -1,8 +1,8 @@
 //! Attempts to read a token, and errors of a token and of a cursor.
 use crate::languages::{Check, language_rows_hold};
 use crate::rows::{pairs_hold, texts_at};
+use crate::shown::{displays, has_first_line, is_done, is_name};
 use crate::tokens::{first_token, tokens_of};
-use crate::told::{displays, is_done, is_name, tells};
 use liquid_core::parser::{
     Filter, FilterChain, ParseFilter, PluginRegistry, TagToken, TryMatchToken,
 };
@@ -10,7 +10,7 @@ use std::alloc::Global;
 use std::test::Fail;
 use tests_lines::{Line, rows_hold};
 
-/// Returns `true` if an attempt at a chain has one that shows this text, or if this is the text of a token that is no
+/// Returns `true` if an attempt at a chain has one that shows this text, or if this is the text of a token that is not a
 /// chain.
 fn shows<X: Filter>(
     alloc: Global,
@@ -81,7 +81,7 @@ fn is_identifier_or_message(alloc: Global, token: TagToken<'_>, text: &str) -> b
 
 /// Returns `true` if this is the first line of an error about a token.
 fn is_refused(alloc: Global, token: TagToken<'_>, line: &str) -> bool {
-    tells(
+    has_first_line(
         alloc,
         &token.raise_custom_error(alloc, "No token at all"),
         line,
@@ -93,7 +93,7 @@ fn is_refused_after(alloc: Global, tag: &str, line: &str) -> bool {
     match tokens_of(alloc, tag) {
         Ok(mut tokens) => {
             let _ = tokens.next();
-            tells(alloc, &tokens.raise_error(alloc, "Nothing more"), line)
+            has_first_line(alloc, &tokens.raise_error(alloc, "Nothing more"), line)
         }
         Err(_) => false,
     }

@@ -1,7 +1,7 @@
 //! Bodies of blocks, with the nodes that their elements are parsed into.
 use crate::languages::{Check, language_rows_hold};
 use crate::rows::texts_at;
-use crate::told::tells;
+use crate::shown::has_first_line;
 use liquid_core::Error;
 use liquid_core::model::Object;
 use liquid_core::parser::{Filter, Language, Node, ParseBlock, ParseFilter, ParseTag, TagBlock};
@@ -46,10 +46,14 @@ where
 }
 
 /// Returns `true` if an answer is this text, or if its error has this first line.
-pub(crate) fn is_text_or_told(alloc: Global, answer: Result<String, Error>, text: &str) -> bool {
+pub(crate) fn is_text_or_first_line(
+    alloc: Global,
+    answer: Result<String, Error>,
+    text: &str,
+) -> bool {
     match answer {
         Ok(answer) => answer.as_str() == text,
-        Err(error) => tells(alloc, &error, text),
+        Err(error) => has_first_line(alloc, &error, text),
     }
 }
 
@@ -79,7 +83,7 @@ where
     B::Node: Renderable<()>,
 {
     match texts_at(row, 0, 1) {
-        Some((body, text)) => is_text_or_told(alloc, body_text(alloc, body, language), text),
+        Some((body, text)) => is_text_or_first_line(alloc, body_text(alloc, body, language), text),
         None => false,
     }
 }
@@ -147,7 +151,11 @@ where
     };
     match (number_at(row, 1), row.text(1)) {
         (Some(length), _) => has_length(boxed_text(alloc, count, language), length),
-        (None, Some(line)) => is_text_or_told(alloc, boxed_text(alloc, count, language), line),
+        (None, Some(line)) => is_text_or_first_line(
+            alloc,
+            boxed_text(alloc, count, language),
+            line,
+        ),
         (None, None) => false,
     }
 }

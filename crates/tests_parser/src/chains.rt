@@ -1,7 +1,7 @@
 //! Chains of filters, made by hand.
 use crate::made::{arguments_in, path_at};
 use crate::runtimes::{Check, rows_hold_over_both};
-use crate::told::displays;
+use crate::shown::displays;
 use bench::filters::{AnyFilter, Filters};
 use liquid_core::model::ValueCow;
 use liquid_core::parser::Filter;
@@ -107,7 +107,7 @@ fn has_result<X: Filter, R: Runtime>(
 }
 
 /// Returns `true` if a chain shows the text and has the result of its row.
-fn is_as_told<X: Filter, R: Runtime>(
+fn has_results<X: Filter, R: Runtime>(
     alloc: Global,
     chain: &FilterChain<X>,
     row: &Line,
@@ -120,9 +120,9 @@ fn is_as_told<X: Filter, R: Runtime>(
 }
 
 /// Returns `true` if the chain of a row is as the row says.
-pub(crate) fn chain_is_as_told<R: Runtime>(alloc: Global, row: &Line, runtime: &R) -> bool {
+pub(crate) fn chain_has_results<R: Runtime>(alloc: Global, row: &Line, runtime: &R) -> bool {
     match chain_of(alloc, row) {
-        Some(chain) => is_as_told(alloc, &chain, row, runtime),
+        Some(chain) => has_results(alloc, &chain, row, runtime),
         None => false,
     }
 }

@@ -1,6 +1,6 @@
 //! Bodies of blocks, with the elements that the cursor returns, and escaped bodies.
 use crate::rows::pairs_hold;
-use crate::told::{is_name, tells, told};
+use crate::shown::{first_line_of, has_first_line, is_name};
 use liquid_core::Error;
 use liquid_core::parser::{BlockElement, TagBlock};
 use std::alloc::{AllocError, Global};
@@ -39,7 +39,7 @@ fn add_next(
     match next {
         Ok(Some(element)) => push(texts, shown(alloc, element)),
         Ok(None) => Ok(()),
-        Err(error) => push(texts, told(alloc, &error)),
+        Err(error) => push(texts, first_line_of(alloc, &error)),
     }
 }
 
@@ -99,7 +99,7 @@ fn is_refused_at_its_end(alloc: Global, block: &mut TagBlock<'_, '_>) -> bool {
     let refusal = "liquid: Unclosed block. {% end %} tag expected. (line 2, column 3)";
     match block.next(alloc) {
         Ok(_) => false,
-        Err(error) => tells(alloc, &error, refusal) && !block.is_closed(),
+        Err(error) => has_first_line(alloc, &error, refusal) && !block.is_closed(),
     }
 }
 

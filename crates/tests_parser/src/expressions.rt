@@ -1,7 +1,7 @@
 //! Expressions and paths, made by hand.
 use crate::made::{list_of, named, path, word};
 use crate::runtimes::{Check, rows_hold_over};
-use crate::told::{displays, is_answer};
+use crate::shown::{displays, is_answer};
 use liquid_core::model::{Scalar, Value};
 use liquid_core::runtime::Runtime;
 use liquid_plugins::{Expression, Variable};

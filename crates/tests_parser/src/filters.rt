@@ -84,7 +84,7 @@ fn filters_are_called_without_a_template(rt: HostRuntime) -> Result<(), Fail> {
     rows_hold(rt.alloc(), CALLS, is_called)?;
     holds(
         keyword_is_refused(rt.alloc()) && filters_are_reflected(),
-        "an unknown keyword is refused, and the filters tell their names and parameters",
+        "an unknown keyword is refused, and the filters list their names and parameters",
     )
 }
 

@@ -28,10 +28,10 @@ mod rows;
 #[cfg(test)]
 mod runtimes;
 #[cfg(test)]
+mod shown;
+#[cfg(test)]
 mod taken;
 #[cfg(test)]
 mod tokens;
-#[cfg(test)]
-mod told;
 #[cfg(test)]
 mod variables;

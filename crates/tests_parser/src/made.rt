@@ -64,7 +64,7 @@ fn add_index(indexes: &mut Vec<Expression>, index: Option<Expression>) -> bool {
     }
 }
 
-/// Returns the indexes that a row gives, or `None` if one of them is no index.
+/// Returns the indexes that a row gives, or `None` if one of them is not an index.
 fn indexes_in(alloc: Global, given: &Vec<Json>) -> Option<Vec<Expression>> {
     let mut indexes = Vec::new(alloc);
     for index in given {

@@ -1,8 +1,8 @@
 //! Elements of bodies, parsed one by one.
-use crate::blocks::{is_text_or_told, rendered};
+use crate::blocks::{is_text_or_first_line, rendered};
 use crate::languages::{Check, language_rows_hold};
 use crate::rows::texts_at;
-use crate::told::tells;
+use crate::shown::has_first_line;
 use liquid_core::Error;
 use liquid_core::parser::{
     BlockElement, InvalidLiquidToken, Language, Node, ParseBlock, ParseFilter, ParseTag, Raw, Tag,
@@ -42,7 +42,7 @@ where
     }
 }
 
-/// Adds the node of the next element after others. Returns `false` if it is no expression.
+/// Adds the node of the next element after others. Returns `false` if it is not an expression.
 fn add_expression<F, T, B>(
     alloc: Global,
     nodes: &mut Vec<Node<F::Filter, T::Node, B::Node>>,
@@ -95,7 +95,7 @@ where
 {
     let mut nodes: Vec<Node<F::Filter, T::Node, B::Node>> = Vec::new(alloc);
     add_four(alloc, &mut nodes, block, language)
-        && is_text_or_told(alloc, rendered(alloc, nodes), text)
+        && is_text_or_first_line(alloc, rendered(alloc, nodes), text)
 }
 
 /// Returns `true` if a cursor has no element more.
@@ -158,7 +158,7 @@ fn is_refused_as<X: Drop, N: Drop, K: Drop>(
 ) -> bool {
     match read {
         Ok(_) => false,
-        Err(error) => tells(alloc, &error, refusal),
+        Err(error) => has_first_line(alloc, &error, refusal),
     }
 }
 
@@ -248,7 +248,7 @@ where
 {
     let mut nodes: Vec<Node<F::Filter, T::Node, B::Node>> = Vec::new(alloc);
     add_box(alloc, &mut nodes, block, language)
-        && is_text_or_told(alloc, rendered(alloc, nodes), text)
+        && is_text_or_first_line(alloc, rendered(alloc, nodes), text)
 }
 
 /// Returns `true` if a row's body is that of a tag `box` alone, which writes the row's text, and the brace after it has the

@@ -1,7 +1,7 @@
 //! Calls of the parser that no other crate's tests make by name.
 use crate::languages::{Check, language_rows_hold};
 use crate::rows::texts_at;
-use crate::told::displays;
+use crate::shown::displays;
 use liquid_core::Error;
 use liquid_core::parser::{
     BlockElement, InvalidLiquidToken, Language, Node, ParseBlock, ParseFilter, ParseTag, Tag,

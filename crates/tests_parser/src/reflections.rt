@@ -14,26 +14,26 @@ fn has_null(row: &Line, place: usize) -> bool {
 }
 
 /// Returns `true` if a text that may be given is what a row has at a place: a text, or null.
-fn is_told(told: Option<&str>, row: &Line, place: usize) -> bool {
-    match told {
+fn is_listed(given: Option<&str>, row: &Line, place: usize) -> bool {
+    match given {
         Some(text) => has_text(row, place, text),
         None => has_null(row, place),
     }
 }
 
 /// Returns `true` if a block has the tags, the description, the example and the spec of a row.
-fn block_is_told<B: BlockReflection>(block: &B, row: &Line) -> bool {
+fn block_is_listed<B: BlockReflection>(block: &B, row: &Line) -> bool {
     has_text(row, 0, block.start_tag())
         && has_text(row, 1, block.end_tag())
         && has_text(row, 2, block.description())
-        && is_told(block.example(), row, 3)
-        && is_told(block.spec(), row, 4)
+        && is_listed(block.example(), row, 3)
+        && is_listed(block.spec(), row, 4)
 }
 
 /// Returns `true` if the block that a row names is registered, and says what the row says.
 pub(crate) fn has_block<B: BlockReflection + Drop>(row: &Line, blocks: &PluginRegistry<B>) -> bool {
     match blocks.get(row.text(0).unwrap_or("")) {
-        Some(block) => block_is_told(block, row),
+        Some(block) => block_is_listed(block, row),
         None => false,
     }
 }
@@ -49,17 +49,17 @@ fn blocks_tell_what_they_are(rt: HostRuntime) -> Result<(), Fail> {
 }
 
 /// Returns `true` if a tag has the name, the description, the example and the spec of a row.
-fn tag_is_told<T: TagReflection>(tag: &T, row: &Line) -> bool {
+fn tag_is_listed<T: TagReflection>(tag: &T, row: &Line) -> bool {
     has_text(row, 0, tag.tag())
         && has_text(row, 1, tag.description())
-        && is_told(tag.example(), row, 2)
-        && is_told(tag.spec(), row, 3)
+        && is_listed(tag.example(), row, 2)
+        && is_listed(tag.spec(), row, 3)
 }
 
 /// Returns `true` if the tag that a row names is registered, and says what the row says.
 pub(crate) fn has_tag<T: TagReflection + Drop>(row: &Line, tags: &PluginRegistry<T>) -> bool {
     match tags.get(row.text(0).unwrap_or("")) {
-        Some(tag) => tag_is_told(tag, row),
+        Some(tag) => tag_is_listed(tag, row),
         None => false,
     }
 }

@@ -19,7 +19,7 @@ pub(crate) fn has_text(row: &Line, place: usize, text: &str) -> bool {
     }
 }
 
-/// Fails for the first row of a table of pairs of texts that does not pass the test or is no such pair.
+/// Fails for the first row of a table of pairs of texts that does not pass the test or is not such a pair.
 pub(crate) fn pairs_hold<F: Fn(Global, &str, &str) -> bool>(
     alloc: Global,
     rows: &str,

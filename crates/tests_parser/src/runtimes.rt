@@ -1,5 +1,5 @@
 //! What tests check over a runtime.
-use crate::chains::{chain_is_as_told, entry_is_tried};
+use crate::chains::{chain_has_results, entry_is_tried};
 use crate::expressions::path_is_tried;
 use liquid_core::model::{Object, to_object};
 use liquid_core::runtime::{BuiltRuntime, Runtime, RuntimeBuilder};
@@ -19,7 +19,7 @@ pub(crate) enum Check {
 /// Returns `true` if a row passes a check over a runtime.
 fn row_holds<R: Runtime>(alloc: Global, check: Check, row: &Line, runtime: &R) -> bool {
     match check {
-        Check::Chain => chain_is_as_told(alloc, row, runtime),
+        Check::Chain => chain_has_results(alloc, row, runtime),
         Check::Entry => entry_is_tried(alloc, row, runtime),
         Check::Path => path_is_tried(alloc, row, runtime),
     }

@@ -1,8 +1,8 @@
 //! The next token of a tag, as what a plug-in expects, and what is left after it.
 use crate::languages::{Check, language_rows_hold};
 use crate::rows::texts_at;
+use crate::shown::{is_answer, is_done, is_name};
 use crate::tokens::{joined, tokens_of};
-use crate::told::{is_answer, is_done, is_name};
 use liquid_core::parser::{ParseFilter, PluginRegistry, TagTokenIter};
 use std::alloc::Global;
 use std::test::Fail;

@@ -1,6 +1,6 @@
 //! Tags alone and their tokens.
 use crate::rows::pairs_hold;
-use crate::told::{tells, told};
+use crate::shown::{first_line_of, has_first_line};
 use liquid_core::Error;
 use liquid_core::parser::{Tag, TagToken, TagTokenIter, TryMatchToken};
 use std::alloc::{AllocError, Global};
@@ -11,7 +11,7 @@ use tests_lines::is_text;
 fn texts(alloc: Global, text: &str) -> Result<String, AllocError> {
     match Tag::new(alloc, text) {
         Ok(tag) => joined(alloc, tag.into_tokens(), text.len()),
-        Err(error) => told(alloc, &error),
+        Err(error) => first_line_of(alloc, &error),
     }
 }
 
@@ -85,13 +85,13 @@ pub(crate) fn first_token(alloc: Global, text: &str) -> Result<TagToken<'_>, Err
 /// Returns `true` if a token has the kinds of some letters, and is raised as an error.
 fn is_kind(alloc: Global, token: TagToken<'_>, letters: &str) -> bool {
     let refusal = "liquid: Unexpected token (line 1, column 6)";
-    has_kinds(alloc, token, letters) && tells(alloc, &token.raise_error(alloc), refusal)
+    has_kinds(alloc, token, letters) && has_first_line(alloc, &token.raise_error(alloc), refusal)
 }
 
 /// Returns `true` if an error is that of a token that is missing at a column.
 fn is_missing(alloc: Global, error: &Error, column: usize) -> bool {
     match format!(in alloc; "liquid: Token expected (line 1, column {column})") {
-        Ok(refusal) => tells(alloc, error, refusal.as_str()),
+        Ok(refusal) => has_first_line(alloc, error, refusal.as_str()),
         Err(_) => false,
     }
 }

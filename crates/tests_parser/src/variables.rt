@@ -1,7 +1,7 @@
 //! Texts that should be one variable.
 use crate::made::path_at;
 use crate::rows::pairs_hold;
-use crate::told::tells;
+use crate::shown::has_first_line;
 use liquid_core::parser::parse_variable;
 use liquid_plugins::Expression;
 use std::alloc::Global;
@@ -39,7 +39,7 @@ fn whole_texts_are_variables(rt: HostRuntime) -> Result<(), Fail> {
 fn is_refused(alloc: Global, text: &str, refusal: &str) -> bool {
     match parse_variable(alloc, text) {
         Ok(_) => false,
-        Err(error) => tells(alloc, &error, refusal),
+        Err(error) => has_first_line(alloc, &error, refusal),
     }
 }
 

@@ -72,7 +72,7 @@ fn add(
     source.add(name, String::from_str(alloc, text)?)
 }
 
-/// Adds a partial of a row. Returns `false` if it is no name and a text, or if memory runs out.
+/// Adds a partial of a row. Returns `false` if it is not a name and a text, or if memory runs out.
 fn add_partial(alloc: Global, source: &mut InMemorySource, partial: &Json) -> bool {
     match (partial.get(0), partial.get(1)) {
         (Some(Json::String(name)), Some(Json::String(text))) => {

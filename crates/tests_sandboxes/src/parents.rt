@@ -171,14 +171,14 @@ fn is_unchanged(alloc: Global, before: Option<&Value>, after: Option<&Value>) ->
 }
 
 /// Returns `true` if a value is left as a row says, or as it was if the row says nothing.
-fn is_told(
+fn is_left(
     alloc: Global,
-    told: Option<&str>,
+    left: Option<&str>,
     before: Option<&Value>,
     after: Option<&Value>,
 ) -> bool {
-    match told {
-        Some(told) => is_text(shown(alloc, after), told),
+    match left {
+        Some(left) => is_text(shown(alloc, after), left),
         None => is_unchanged(alloc, before, after),
     }
 }
@@ -187,11 +187,11 @@ fn is_told(
 fn are_names_left<R: Runtime, Q: Runtime>(alloc: Global, row: &Row, before: &R, after: &Q) -> bool {
     for name in NAMES {
         let was = before.try_get_name(name);
-        let told = match row.text_within("assigned", name) {
+        let left = match row.text_within("assigned", name) {
             None if was.is_none() => row.text_within("counted", name),
-            told => told,
+            left => left,
         };
-        if !is_told(alloc, told, was, after.try_get_name(name)) {
+        if !is_left(alloc, left, was, after.try_get_name(name)) {
             return false;
         }
     }
@@ -206,8 +206,8 @@ fn are_indexes_left<R: Runtime, Q: Runtime>(
     after: &Q,
 ) -> bool {
     for name in ["c", "d", "n", "spare"] {
-        let (told, was) = (row.text_within("counted", name), before.get_index(name));
-        if !is_told(alloc, told, was, after.get_index(name)) {
+        let (left, was) = (row.text_within("counted", name), before.get_index(name));
+        if !is_left(alloc, left, was, after.get_index(name)) {
             return false;
         }
     }

@@ -50,7 +50,7 @@ fn has_error(alloc: Global, row: &Row, answer: &Result<(), Error>) -> bool {
 }
 
 /// Returns `true` if a call wrote what its row says, has the row's error, and left of the parent what the row says.
-fn is_as_told<R: Runtime<Register = Visits>>(
+fn is_row_result<R: Runtime<Register = Visits>>(
     alloc: Global,
     place: Place<'_>,
     written: &[u8],
@@ -101,7 +101,7 @@ where
 {
     let mut sink = TextSink::new(alloc);
     let answer = render(alloc, place.row, page, &mut sink, parent);
-    is_as_told(alloc, place, sink.as_bytes(), &answer, &*parent)
+    is_row_result(alloc, place, sink.as_bytes(), &answer, &*parent)
 }
 
 /// Renders a row in a sandbox or in isolation over open scopes.
@@ -190,7 +190,7 @@ where
     let (answer, after) = rendered_over_a_frame::<S, X, T, B>(
         alloc, place.row, page, &mut sink, base,
     );
-    is_as_told(alloc, place, sink.as_bytes(), &answer, &after)
+    is_row_result(alloc, place, sink.as_bytes(), &answer, &after)
 }
 
 /// Returns a place's parent over a store of its own, or `None` if it could not be made.

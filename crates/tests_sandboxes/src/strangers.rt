@@ -50,7 +50,13 @@ where
 }
 
 /// Returns `true` if a row of a sink says what it took, what `g` is left as and whether the call has no error.
-fn is_told<R: Runtime>(alloc: Global, drip: &Line, took: &[u8], after: &R, is_whole: bool) -> bool {
+fn is_row_result<R: Runtime>(
+    alloc: Global,
+    drip: &Line,
+    took: &[u8],
+    after: &R,
+    is_whole: bool,
+) -> bool {
     match (drip.text(1), drip.text(2), drip.truth(3)) {
         (Some(wanted), Some(left), Some(is_wanted_whole)) => {
             took == wanted.as_bytes()
@@ -80,7 +86,7 @@ fn drips_over<R: Runtime<Store = ()>>(
         (Some(puts), Ok(data)) => {
             let mut sink = Dripping::new(alloc, puts);
             let is_whole = render(alloc, row.template(), data, parent, &mut sink).is_ok();
-            is_told(alloc, drip, sink.as_bytes(), &*parent, is_whole)
+            is_row_result(alloc, drip, sink.as_bytes(), &*parent, is_whole)
         }
         _ => false,
     }

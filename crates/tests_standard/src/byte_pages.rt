@@ -22,10 +22,10 @@ fn language(alloc: Global) -> Language<NoPlugin, NoPlugin, NoPlugin> {
 fn end_of(rendered: &Rendered) -> &'static str {
     match &rendered.end {
         Ok(()) => "whole",
-        Err(PageFault::NoText(PageText::Template)) => "the template is no text",
-        Err(PageFault::NoText(PageText::Globals)) => "the globals are no text",
-        Err(PageFault::NoText(PageText::PartialName(1))) => "the name of partial 1 is no text",
-        Err(PageFault::NoText(PageText::PartialText(0))) => "the text of partial 0 is no text",
+        Err(PageFault::NoText(PageText::Template)) => "the template is not UTF-8",
+        Err(PageFault::NoText(PageText::Globals)) => "the globals are not UTF-8",
+        Err(PageFault::NoText(PageText::PartialName(1))) => "the name of partial 1 is not UTF-8",
+        Err(PageFault::NoText(PageText::PartialText(0))) => "the text of partial 0 is not UTF-8",
         Err(PageFault::NoText(_)) => "another text",
         Err(PageFault::BadJson(_)) => "bad JSON",
         Err(PageFault::NoGlobals(_)) => "no globals",
@@ -74,7 +74,7 @@ static ROWS: [Row<'static>; 13] = [
         b"\xff",
         b"\x80",
         false,
-        "the text of partial 0 is no text",
+        "the text of partial 0 is not UTF-8",
         b"",
     ),
     (
@@ -83,7 +83,7 @@ static ROWS: [Row<'static>; 13] = [
         b"",
         b"\x80",
         false,
-        "the name of partial 1 is no text",
+        "the name of partial 1 is not UTF-8",
         b"",
     ),
     (
@@ -103,7 +103,7 @@ static ROWS: [Row<'static>; 13] = [
         b"\xff",
         b"b",
         false,
-        "the globals are no text",
+        "the globals are not UTF-8",
         b"",
     ),
     (
@@ -112,7 +112,7 @@ static ROWS: [Row<'static>; 13] = [
         b"\xff",
         b"b",
         false,
-        "the template is no text",
+        "the template is not UTF-8",
         b"",
     ),
     (
@@ -121,7 +121,7 @@ static ROWS: [Row<'static>; 13] = [
         b"",
         b"b",
         false,
-        "the template is no text",
+        "the template is not UTF-8",
         b"",
     ),
 ];

@@ -7,7 +7,7 @@ use std::borrow::CowStr;
 use std::cell::Cell;
 use std::rc::Rc;
 
-/// The texts of another source. The count is shared with whoever made it.
+/// The texts of another source. The function that makes a source shares its count.
 #[derive(Drop)]
 pub(crate) struct CountingSource<S> {
     pub(crate) source: S,

@@ -1,5 +1,5 @@
 //! What tags and blocks say about themselves.
-use crate::reflections::{block_is_told, tag_is_told};
+use crate::reflections::{block_is_listed, tag_is_listed};
 use liquid_tags::{Blocks, Tags};
 use std::alloc::Global;
 use std::test::Fail;
@@ -21,7 +21,7 @@ const BLOCKS: &str = r#"["if", "endif", "Renders the part after the first condit
 /// Returns `true` if a tag is as the row of a line says.
 fn tag_holds(alloc: Global, tag: Tags, line: &str) -> bool {
     match Line::of(alloc, line) {
-        Some(row) => tag_is_told(&tag, &row),
+        Some(row) => tag_is_listed(&tag, &row),
         None => false,
     }
 }
@@ -29,7 +29,7 @@ fn tag_holds(alloc: Global, tag: Tags, line: &str) -> bool {
 /// Returns `true` if a block is as the row of a line says.
 fn block_holds(alloc: Global, block: Blocks, line: &str) -> bool {
     match Line::of(alloc, line) {
-        Some(row) => block_is_told(&block, &row),
+        Some(row) => block_is_listed(&block, &row),
         None => false,
     }
 }

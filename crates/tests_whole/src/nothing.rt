@@ -1,6 +1,6 @@
 //! The plug-in that does nothing: what it says about itself, and what it makes of texts.
 use crate::pages::{Table, tables_hold};
-use crate::reflections::{block_is_told, body_is_told, filter_is_told, tag_is_told};
+use crate::reflections::{block_is_listed, body_is_listed, filter_is_listed, tag_is_listed};
 use liquid_core::model::{Value, ValueCow};
 use liquid_core::parser::{
     BlockReflection, Filter, FilterArguments, FilterReflection, Language, NoPlugin, TagReflection,
@@ -14,24 +14,24 @@ type Nothings = Language<NoPlugin, NoPlugin, NoPlugin>;
 
 /// What the filter, the tag and the block say: name, description, parameters by place, parameters by keyword; name and
 /// description; start tag, end tag, description, dividers, whether it escapes, and whether it nests.
-const TOLD: &str = r#"["nothing", "Gives nil.", "", ""]
+const REFLECTIONS: &str = r#"["nothing", "Gives nil.", "", ""]
 ["nothing", "Writes nothing."]
 ["nothing", "endnothing", "Writes nothing, not even its body.", "", false, false]"#;
 
 /// Returns `true` if the block, the filter or the tag is as a row with that many places says.
-fn is_told(alloc: Global, row: &Line) -> bool {
+fn is_listed(alloc: Global, row: &Line) -> bool {
     if row.member(5).is_some() {
-        block_is_told(&NoPlugin, row) && body_is_told(alloc, &NoPlugin, row)
+        block_is_listed(&NoPlugin, row) && body_is_listed(alloc, &NoPlugin, row)
     } else if row.member(3).is_some() {
-        filter_is_told(alloc, &NoPlugin, row)
+        filter_is_listed(alloc, &NoPlugin, row)
     } else {
-        tag_is_told(&NoPlugin, row)
+        tag_is_listed(&NoPlugin, row)
     }
 }
 
 #[test]
-fn nothing_tells_what_it_is(rt: HostRuntime) -> Result<(), Fail> {
-    rows_hold(rt.alloc(), TOLD, is_told)?;
+fn nothing_says_what_it_is(rt: HostRuntime) -> Result<(), Fail> {
+    rows_hold(rt.alloc(), REFLECTIONS, is_listed)?;
     holds(NoPlugin.label() == "nothing", "the label")
 }
 

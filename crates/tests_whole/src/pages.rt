@@ -82,7 +82,7 @@ pub(crate) fn has_error(alloc: Global, answer: &Result<(), Error>, text: &str) -
 }
 
 /// Returns `true` if a call wrote what a row says, and has the row's error.
-pub(crate) fn is_told(
+pub(crate) fn is_row_result(
     alloc: Global,
     row: &Row,
     sink: &TextSink,
@@ -111,7 +111,7 @@ where
         Some(mut runtime) => {
             let mut sink = TextSink::new(alloc);
             let answer = render_source(alloc, row.template(), language, &mut runtime, &mut sink);
-            is_told(alloc, row, &sink, &answer)
+            is_row_result(alloc, row, &sink, &answer)
         }
         None => false,
     }

@@ -47,21 +47,21 @@ fn are_texts(row: &Line, texts: &[&str]) -> bool {
 }
 
 /// Returns `true` if a filter has the name, the description and the parameters of a row.
-pub(crate) fn filter_is_told<P: FilterReflection>(alloc: Global, filter: &P, row: &Line) -> bool {
+pub(crate) fn filter_is_listed<P: FilterReflection>(alloc: Global, filter: &P, row: &Line) -> bool {
     are_texts(row, &[filter.name(), filter.description()])
         && are_listed(alloc, filter.positional_parameters(), row.text(2))
         && are_listed(alloc, filter.keyword_parameters(), row.text(3))
 }
 
 /// Returns `true` if a tag has the name and the description of a row, and neither an example nor a spec.
-pub(crate) fn tag_is_told<T: TagReflection>(tag: &T, row: &Line) -> bool {
+pub(crate) fn tag_is_listed<T: TagReflection>(tag: &T, row: &Line) -> bool {
     are_texts(row, &[tag.tag(), tag.description()])
         && tag.example().is_none()
         && tag.spec().is_none()
 }
 
 /// Returns `true` if a block has the tags and the description of a row, and neither an example nor a spec.
-pub(crate) fn block_is_told<B: BlockReflection>(block: &B, row: &Line) -> bool {
+pub(crate) fn block_is_listed<B: BlockReflection>(block: &B, row: &Line) -> bool {
     are_texts(
         row,
         &[block.start_tag(), block.end_tag(), block.description()],
@@ -78,7 +78,7 @@ fn are_joined(alloc: Global, names: &[&str], text: Option<&str>) -> bool {
 }
 
 /// Returns `true` if a block has the dividers of a row, and escapes and nests as the row says.
-pub(crate) fn body_is_told<B: ParseBlock<Filters>>(alloc: Global, block: &B, row: &Line) -> bool {
+pub(crate) fn body_is_listed<B: ParseBlock<Filters>>(alloc: Global, block: &B, row: &Line) -> bool {
     are_joined(alloc, block.dividers(), row.text(3))
         && Some(block.escapes()) == row.truth(4)
         && Some(block.nests()) == row.truth(5)
@@ -92,7 +92,7 @@ const FILTERS: &str =
 /// Returns `true` if a filter is as the row of a line says.
 fn filter_holds(alloc: Global, filter: Filters, line: &str) -> bool {
     match Line::of(alloc, line) {
-        Some(row) => filter_is_told(alloc, &filter, &row),
+        Some(row) => filter_is_listed(alloc, &filter, &row),
         None => false,
     }
 }
@@ -126,7 +126,7 @@ const TAGS: &str = r#"["set", "Sets a global to a value, and writes nothing."]
 fn tag_is_found<T: TagReflection + Drop>(tags: &PluginRegistry<T>, row: &Line) -> bool {
     match row.text(0) {
         Some(name) => match tags.get(name) {
-            Some(tag) => tag_is_told(tag, row),
+            Some(tag) => tag_is_listed(tag, row),
             None => false,
         },
         None => false,
@@ -163,7 +163,7 @@ const LIBRARY: &str =
 /// Returns `true` if a block is as the row of a line says, with its body.
 fn block_holds<B: ParseBlock<Filters>>(alloc: Global, block: &B, line: &str) -> bool {
     match Line::of(alloc, line) {
-        Some(row) => block_is_told(block, &row) && body_is_told(alloc, block, &row),
+        Some(row) => block_is_listed(block, &row) && body_is_listed(alloc, block, &row),
         None => false,
     }
 }

@@ -1,5 +1,5 @@
 //! The calls that render a template, each over a runtime of its own, of any type.
-use crate::pages::{has_error, is_told};
+use crate::pages::{has_error, is_row_result};
 use liquid_core::runtime::{ChainedScopes, FlatScopes, Renderable, Runtime, Scopes, Template};
 use liquid_core::{Error, Filter, PartialStore, TextSink};
 use std::alloc::Global;
@@ -34,7 +34,7 @@ where
 {
     let mut sink = TextSink::new(alloc);
     let answer = page.render_to(alloc, &mut sink, &mut runtime);
-    is_told(alloc, row, &sink, &answer)
+    is_row_result(alloc, row, &sink, &answer)
 }
 
 /// Returns `true` if a call returned what a row says, or the row's error.
@@ -82,7 +82,7 @@ where
     let answer = page.render_in(alloc, &mut sink, &mut scopes);
     let frames = scopes.frames();
     drop(scopes.into_base());
-    frames == 0 && is_told(alloc, row, &sink, &answer)
+    frames == 0 && is_row_result(alloc, row, &sink, &answer)
 }
 
 /// Returns `true` if a template has a row's result by one of the calls that render it.

@@ -167,7 +167,7 @@ fn bytes_that_are_no_text_are_refused(rt: HostRuntime) -> Result<(), Fail> {
         sink.put(b"\xff") == Ok(1)
             && sink.as_bytes() == b"\xff".as_slice()
             && sink.into_string().is_err(),
-        "a byte is taken and kept that is no text",
+        "a byte that is not text is taken and kept",
     )
 }
 

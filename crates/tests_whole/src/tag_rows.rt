@@ -1,7 +1,7 @@
 //! Templates with the tags and blocks of the library.
 use crate::kinds::source;
 use crate::library_language::library_tables_hold;
-use crate::pages::{globals, is_told};
+use crate::pages::{globals, is_row_result};
 use bench::Filters;
 use bench::languages::filters;
 use liquid_core::TextSink;
@@ -137,7 +137,7 @@ fn is_page_with(alloc: Global, row: &Row, filters: PluginRegistry<Filters>) -> b
         Some((globals, source)) => {
             let mut sink = TextSink::new(alloc);
             let answer = render_page(alloc, row.template(), globals, source, filters, &mut sink);
-            is_told(alloc, row, &sink, &answer)
+            is_row_result(alloc, row, &sink, &answer)
         }
         None => false,
     }

@@ -44,7 +44,7 @@ fn left_after(tag: &Tag<'_>, taken: i64, count: usize) -> usize {
 }
 
 /// Returns `true` if a tag has the name, the text and the tokens of a row.
-fn is_told(alloc: Global, row: &Line, tag: Tag<'_>, text: &str) -> bool {
+fn is_listed(alloc: Global, row: &Line, tag: Tag<'_>, text: &str) -> bool {
     match row.text(2).zip(row.number(3)) {
         Some((shown, taken)) => {
             Some(tag.name()) == row.text(1)
@@ -60,7 +60,7 @@ fn is_told(alloc: Global, row: &Line, tag: Tag<'_>, text: &str) -> bool {
 fn holds(alloc: Global, row: &Line) -> bool {
     match row.text(0) {
         Some(text) => match Tag::new(alloc, text) {
-            Ok(tag) => is_told(alloc, row, tag, text),
+            Ok(tag) => is_listed(alloc, row, tag, text),
             Err(_) => false,
         },
         None => false,

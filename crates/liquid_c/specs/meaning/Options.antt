@@ -8,7 +8,7 @@ use Rattle.liquid_c.specs.declared.page.Page.{Page}
 abbrev pub has_bit : ℕ → ℕ → Bool
 has_bit options bit = not (nat_eq (bit_and options bit) 0)
 
--- 0 is no limit
+-- 0 means no limit
 abbrev pub limit_of : ℕ → Option ℕ
 limit_of number = if nat_eq number 0 then None else Some number
 

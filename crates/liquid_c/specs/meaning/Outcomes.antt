@@ -39,9 +39,9 @@ IsWhere (no_globals refusal) o = IsPlaced refusal.place o
 IsWhere (no_text which) o = IsPlaced None o × IsWhich which o
 
 -- how a page ended that was rendered into so much room: whole, or too long for it (7); or its fault
-abbrev pub Tells : Option Fault → ℕ → Outcome → Type 0
-Tells None room o = (o.kind ≡ (if nat_le o.needed room then 0 else 7)) × IsPlaced None o
-Tells (Some fault) room o = (o.kind ≡ kind_of fault) × IsWhere fault o
+abbrev pub Reports : Option Fault → ℕ → Outcome → Type 0
+Reports None room o = (o.kind ≡ (if nat_le o.needed room then 0 else 7)) × IsPlaced None o
+Reports (Some fault) room o = (o.kind ≡ kind_of fault) × IsWhere fault o
 
 -- memory that held these bytes has the first of what was rendered, as many as it has room for, and then what it held
 pub record Leaves (page : Page) (old new : List ℕ) (o : Outcome) : Type 0 where
@@ -50,7 +50,7 @@ pub record Leaves (page : Page) (old new : List ℕ) (o : Outcome) : Type 0 wher
   pub written : o.written ≡ min (length rendered) (length old)
   pub bytes : new ≡ take o.written rendered ++ drop o.written old
   -- what was rendered is the page's output, and the outcome says how it ended; out of memory (6) it is a beginning of it
-  pub ends : ((o.kind ≡ 6) × Begins rendered page) ⊎ ((rendered ≡ page.output) × Tells page.fault (length old) o)
+  pub ends : ((o.kind ≡ 6) × Begins rendered page) ⊎ ((rendered ≡ page.output) × Reports page.fault (length old) o)
 
 -- options that there are none of are refused (8), and nothing is written
 abbrev pub Unasked : List ℕ → List ℕ → Outcome → Type 0

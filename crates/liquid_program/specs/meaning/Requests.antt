@@ -34,7 +34,7 @@ use Rattle.liquid_program.specs.meaning.Gathered.{in_order, path_in}
 use Rattle.liquid_program.specs.meaning.PagesCommand.{AskedPages, pages_of}
 use Rattle.liquid_program.specs.meaning.Status.{all_status}
 
--- what is wrong: a file is no text, or a folder can't be listed; a text is not JSON; or its JSON is no object of values
+-- what is wrong: a file is not text, or a folder can't be listed; a text is not JSON; or its JSON is not an object of values
 pub data Trouble : Type 0 where
   unreadable : List ℕ → Trouble
   bad_json : List ℕ → Trouble

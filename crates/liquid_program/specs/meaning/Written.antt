@@ -104,7 +104,7 @@ Placed shown asked None known listed left before after status =
     Same known left × shown (Executes asked.choices.options asked.choices.ending asked.paths known listed) before after status
 Placed shown asked (Some place) known listed left before after status = (after ≡ before) × WritesAsked asked place known listed left status
 
--- words that are no command for one page leave the output as it is
+-- words that are not a command for one page leave the output as it is
 abbrev pub WritesOthers : Option AskedPages → (List ℕ → Option (Option (List ℕ))) → (Bool → List ℕ → Option (Option (List (List ℕ))))
     → (List ℕ → Option (Option (List ℕ))) → ℕ → Type 0
 WritesOthers None known listed left status = Same known left × (status ≡ 2)

@@ -18,14 +18,14 @@ fn first_line(text: &str) -> &str {
 }
 
 /// Returns the first line of an error.
-pub(crate) fn told(alloc: Global, error: &Error) -> Result<String, AllocError> {
+pub(crate) fn first_line_of(alloc: Global, error: &Error) -> Result<String, AllocError> {
     let text = error.to_string(alloc)?;
     String::from_str(alloc, first_line(text.as_str()))
 }
 
 /// Returns `true` if this is the first line of an error.
-pub(crate) fn tells(alloc: Global, error: &Error, line: &str) -> bool {
-    is_text(told(alloc, error), line)
+pub(crate) fn has_first_line(alloc: Global, error: &Error, line: &str) -> bool {
+    is_text(first_line_of(alloc, error), line)
 }
 
 /// Returns `true` if an answer displays a text, or if its error has this first line.
@@ -36,7 +36,7 @@ pub(crate) fn is_answer<D: Display + Drop>(
 ) -> bool {
     match answer {
         Ok(answer) => displays(alloc, &answer, text),
-        Err(error) => tells(alloc, &error, text),
+        Err(error) => has_first_line(alloc, &error, text),
     }
 }
 
@@ -44,7 +44,7 @@ pub(crate) fn is_answer<D: Display + Drop>(
 pub(crate) fn is_name(alloc: Global, name: Result<&str, Error>, text: &str) -> bool {
     match name {
         Ok(name) => name == text,
-        Err(error) => tells(alloc, &error, text),
+        Err(error) => has_first_line(alloc, &error, text),
     }
 }
 
@@ -52,6 +52,6 @@ pub(crate) fn is_name(alloc: Global, name: Result<&str, Error>, text: &str) -> b
 pub(crate) fn is_done(alloc: Global, done: Result<(), Error>, name: &str, text: &str) -> bool {
     match done {
         Ok(()) => name == text,
-        Err(error) => tells(alloc, &error, text),
+        Err(error) => has_first_line(alloc, &error, text),
     }
 }
