@@ -48,7 +48,7 @@ same_if which bytes t false is = absurd (true≢false (sym (ap is_read is)))
 pub same_text : (which : PageText) (bytes t : List ℕ) → text_read which bytes ≡ Ok t → t ≡ bytes
 same_text which bytes t is = same_if which bytes t (is_utf8 bytes) is
 
--- bytes whose fault is that they are not text
+-- bytes whose fault is that they are no text
 pub refused_text : (which : PageText) {A : Type 0} (given : Result A Fault) (fault : PageFault) → fault ≡ page.NoText which
     → IfSome (fault_told fault) (λ f. given ≡ Err f) → given ≡ Err (no_text which)
 refused_text which given fault is tells = subst (λ x. IfSome (fault_told x) (λ f. given ≡ Err f)) is tells

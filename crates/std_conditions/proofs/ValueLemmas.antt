@@ -93,7 +93,7 @@ module _ (separators : List (List ℕ)) where
       ∙ moved done e (values_after separators rest.left)
       ∙ ap (λ es. read_on es rest.left) (sym pushed)
 
-  -- the refusal of a token that is not a separator
+  -- the refusal of a token that is no separator
   pub separator_refused : (done : List ExpressionShape) (ts : List Token) (given : Token × Tokens) (o : Option Refusal)
       (meant : Result (List ExpressionShape) Refusal)
       → meant ≡ read_on done ts → first_of ts ≡ Some given → IfSome o
