@@ -171,7 +171,7 @@ fn is_unchanged(alloc: Global, before: Option<&Value>, after: Option<&Value>) ->
 }
 
 /// Returns `true` if a value is left as a row says, or as it was if the row says nothing.
-fn is_left(
+fn has_value(
     alloc: Global,
     left: Option<&str>,
     before: Option<&Value>,
@@ -191,7 +191,7 @@ fn are_names_left<R: Runtime, Q: Runtime>(alloc: Global, row: &Row, before: &R, 
             None if was.is_none() => row.text_within("counted", name),
             left => left,
         };
-        if !is_left(alloc, left, was, after.try_get_name(name)) {
+        if !has_value(alloc, left, was, after.try_get_name(name)) {
             return false;
         }
     }
@@ -207,7 +207,7 @@ fn are_indexes_left<R: Runtime, Q: Runtime>(
 ) -> bool {
     for name in ["c", "d", "n", "spare"] {
         let (left, was) = (row.text_within("counted", name), before.get_index(name));
-        if !is_left(alloc, left, was, after.get_index(name)) {
+        if !has_value(alloc, left, was, after.get_index(name)) {
             return false;
         }
     }
