@@ -1,87 +1,39 @@
 //! What the file of globals may contain.
-use crate::runs::{RENDER, Row, answers, ran, rows_answer};
-use std::alloc::{AllocError, Global};
+use crate::runs::row_holds;
 use std::test::Fail;
+use tests_lines::rows_hold;
 
-const BAD_JSON: &str = "liquid: bad JSON in g.json\n";
-
-const NO_JSON: &str = "liquid: cannot read g.json\n";
-
-const GLOBALS: [Row; 17] = [
-    (b"x", b"", 3, "", BAD_JSON),
-    (b"x", b"{\"x\": 1", 3, "", BAD_JSON),
-    (b"x", b"{} x", 3, "", BAD_JSON),
-    (b"x", b"{\"x\": \"\\ud800\"}", 3, "", BAD_JSON),
-    (b"x", b"{\"x\": 01}", 3, "", BAD_JSON),
-    (b"x", b"{'x': 1}", 3, "", BAD_JSON),
-    (b"x", b"{\"x\": 1e999}", 3, "", BAD_JSON),
-    (b"x", b"\xef\xbb\xbf{}", 3, "", BAD_JSON),
-    (b"x", b"{\"x\": \"\xff\"}", 3, "", NO_JSON),
-    (b"a\xff", b"[1]", 3, "", "liquid: cannot read t\n"),
-    (
-        b"{{ ! }}",
-        b"[1]",
-        3,
-        "",
-        "liquid: Object cannot be an array.\n",
-    ),
-    (b"x", b"null", 3, "", "liquid: Object cannot be a scalar.\n"),
-    (
-        b"x",
-        b"\"x\"",
-        3,
-        "",
-        "liquid: Object cannot be a scalar.\n",
-    ),
-    (
-        b"x",
-        b"{\"x\": 9223372036854775808}",
-        3,
-        "",
-        "liquid: Cannot fit number\n",
-    ),
-    (
-        b"x",
-        b"{\"x\": [1.5]}",
-        3,
-        "",
-        "liquid: Fractional number\n",
-    ),
-    (
-        b"x",
-        b"{\"y\": 1.5, \"x\": 9223372036854775808}",
-        3,
-        "",
-        "liquid: Cannot fit number\n",
-    ),
-    (b"{{ x }}", b"{\"x\": 1.5, \"x\": 2}", 0, "2", ""),
-];
+/// Rows as `runs` describes them.
+const GLOBALS: &str = r#"["render t g.json", "x", "", 3, "", "liquid: bad JSON in g.json\n"]
+["render t g.json", "x", "{\"x\": 1", 3, "", "liquid: bad JSON in g.json\n"]
+["render t g.json", "x", "{} x", 3, "", "liquid: bad JSON in g.json\n"]
+["render t g.json", "x", "{\"x\": \"\\ud800\"}", 3, "", "liquid: bad JSON in g.json\n"]
+["render t g.json", "x", "{\"x\": 01}", 3, "", "liquid: bad JSON in g.json\n"]
+["render t g.json", "x", "{'x': 1}", 3, "", "liquid: bad JSON in g.json\n"]
+["render t g.json", "x", "{\"x\": 1e999}", 3, "", "liquid: bad JSON in g.json\n"]
+["render t g.json", "x", "\ufeff{}", 3, "", "liquid: bad JSON in g.json\n"]
+["render t g.json", "x", ["{\"x\": \"", 255, "\"}"], 3, "", "liquid: cannot read g.json\n"]
+["render t g.json", ["a", 255], "[1]", 3, "", "liquid: cannot read t\n"]
+["render t g.json", "{{ ! }}", "[1]", 3, "", "liquid: Object cannot be an array.\n"]
+["render t g.json", "x", "null", 3, "", "liquid: Object cannot be a scalar.\n"]
+["render t g.json", "x", "\"x\"", 3, "", "liquid: Object cannot be a scalar.\n"]
+["render t g.json", "x", "{\"x\": 9223372036854775808}", 3, "", "liquid: Cannot fit number\n"]
+["render t g.json", "x", "{\"x\": [1.5]}", 3, "", "liquid: Fractional number\n"]
+["render t g.json", "x", "{\"y\": 1.5, \"x\": 9223372036854775808}", 3, "", "liquid: Cannot fit number\n"]
+["render t g.json", "{{ x }}", "{\"x\": 1.5, \"x\": 2}", 0, "2", ""]"#;
 
 #[test]
 fn globals_are_an_object_of_values(rt: HostRuntime) -> Result<(), Fail> {
-    rows_answer(rt.alloc(), &GLOBALS)
+    rows_hold(rt.alloc(), GLOBALS, row_holds)
 }
 
-/// Returns an array in arrays, that many of them, under the name `x`.
-fn nested(alloc: Global, depth: usize) -> Result<String, AllocError> {
-    let mut text = String::from_str(alloc, "{\"x\": ")?;
-    text.push_str("[".repeat(alloc, depth)?.as_str())?;
-    text.push_str("]".repeat(alloc, depth)?.as_str())?;
-    text.push_str("}")?;
-    Ok(text)
-}
+/// Arrays in arrays under the name `x`, in rows of the same places.
+const NESTED: &str =
+    r#"["render t g.json", "", ["{\"x\": ", ["[", 126], ["]", 126], "}"], 0, "", ""]
+["render t g.json", "", ["{\"x\": ", ["[", 127], ["]", 127], "}"], 3, "", "liquid: bad JSON in g.json\n"]
+["render t g.json", "", ["{\"x\": ", ["[", 1000000], ["]", 1000000], "}"], 3, "", "liquid: bad JSON in g.json\n"]"#;
 
 #[test]
 fn globals_nest_to_a_depth(rt: HostRuntime) -> Result<(), Fail> {
-    let alloc = rt.alloc();
-    for (depth, status, err) in [(126, 0, ""), (127, 3, BAD_JSON), (1_000_000, 3, BAD_JSON)] {
-        let globals = nested(alloc, depth)?;
-        answers(
-            &ran(alloc, b"", globals.as_bytes(), RENDER)?,
-            status,
-            "",
-            err,
-        )?;
-    }
-    Ok(())
+    rows_hold(rt.alloc(), NESTED, row_holds)
 }

@@ -1,4 +1,4 @@
-//! The tests of the program, over files and streams in memory.
+//! The tests of the program, over files and streams in memory. Each table is one text of lines, a row each.
 #![tactic(auto)]
 
 #[cfg(test)]

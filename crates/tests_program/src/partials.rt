@@ -1,115 +1,104 @@
 //! Partials from a folder.
-use crate::runs::{answers, folder, words_of};
-use liquid_program::in_memory::{Ran, run_in_memory};
-use std::alloc::{AllocError, Global};
+use crate::runs::{add_file, add_names, add_pages, add_words, holds_over};
+use liquid_program::in_memory::InMemoryFolder;
+use serde_json::Value as Json;
+use std::alloc::Global;
 use std::test::Fail;
+use tests_lines::{Line, rows_hold};
 
-/// The paths and the bytes of files, and the names in the folder `d`.
-#[derive(Clone, Copy)]
-struct Site {
-    files: &'static [(&'static str, &'static [u8])],
-    names: &'static [&'static str],
+/// Adds the files of the folder `d`. Returns `false` if memory runs out.
+fn add_folder(alloc: Global, files: &mut InMemoryFolder) -> bool {
+    files
+        .add(alloc, "d/p", b"[{{ x }}{% include \"q\" %}]")
+        .is_ok()
+        && files.add(alloc, "d/q", b"q").is_ok()
+        && files.add(alloc, "d/bad", b"{% nope %}").is_ok()
+        && files.add(alloc, "d/\u{e9}", b"accent").is_ok()
+        && add_names(alloc, files, "q p \u{e9} bad")
 }
 
-impl Site {
-    fn run(&self, alloc: Global, words: &[&str], template: &[u8]) -> Result<Ran, AllocError> {
-        let mut files = folder(alloc, template, b"{\"x\": 1}")?;
-        for (path, bytes) in self.files {
-            files.add(alloc, path, bytes)?;
-        }
-        files.add_list(alloc, "d", words_of(alloc, self.names)?)?;
-        let words = words_of(alloc, words)?;
-        Ok(run_in_memory(alloc, words.as_slice(), &mut files))
-    }
+/// Returns `true` if the words of a row have its answer over this folder.
+fn row_holds(alloc: Global, row: &Line) -> bool {
+    let mut files = InMemoryFolder::new(alloc);
+    add_pages(alloc, &mut files, row)
+        && add_folder(alloc, &mut files)
+        && holds_over(alloc, row, &mut files)
 }
 
-const WITH_FOLDER: &[&str] = &["render", "t", "g.json", "d"];
-
-const SITE: Site = Site {
-    files: &[
-        ("d/p", b"[{{ x }}{% include \"q\" %}]"),
-        ("d/q", b"q"),
-        ("d/bad", b"{% nope %}"),
-        ("d/\u{e9}", b"accent"),
-    ],
-    names: &["q", "p", "\u{e9}", "bad"],
-};
-
-const UNKNOWN_PARTIAL: &str =
-    "liquid: Unknown partial-template\n  with:\n    requested partial=r\n    available partials=bad, p, q, \u{e9}\nfrom: include r\n";
-
-const UNKNOWN_TAG: &str =
-    "liquid: Unknown tag. (line 1, column 4)\n  with:\n    requested=nope\n    available tags=assign, break, continue, include, increment, render\n    available blocks=for, if, raw\nfrom: include bad\n";
+/// Rows as `runs` describes them, over this folder.
+const ROWS: &str = r#"["render t g.json d", "a{% include \"p\" %}b", "{\"x\": 1}", 0, "a[1q]b", ""]
+["render t g.json d", "no partial", "{\"x\": 1}", 0, "no partial", ""]
+["render t g.json d", "a{% include \"r\" %}", "{\"x\": 1}", 1, "a", "liquid: Unknown partial-template\n  with:\n    requested partial=r\n    available partials=bad, p, q, é\nfrom: include r\n"]
+["render t g.json d", "a{% include \"bad\" %}", "{\"x\": 1}", 1, "a", "liquid: Unknown tag. (line 1, column 4)\n  with:\n    requested=nope\n    available tags=assign, break, continue, include, increment, render\n    available blocks=for, if, raw\nfrom: include bad\n"]
+["render t g.json d", "{% include \"q\" %}{% render \"q\" %}", "{\"x\": 1}", 0, "qq", ""]"#;
 
 #[test]
 fn files_of_a_folder_are_partials(rt: HostRuntime) -> Result<(), Fail> {
-    let alloc = rt.alloc();
-    let rows: [(&[u8], u8, &str, &str); 5] = [
-        (b"a{% include \"p\" %}b", 0, "a[1q]b", ""),
-        (b"no partial", 0, "no partial", ""),
-        (b"a{% include \"r\" %}", 1, "a", UNKNOWN_PARTIAL),
-        (b"a{% include \"bad\" %}", 1, "a", UNKNOWN_TAG),
-        (b"{% include \"q\" %}{% render \"q\" %}", 0, "qq", ""),
-    ];
-    for (template, status, out, err) in rows {
-        answers(&SITE.run(alloc, WITH_FOLDER, template)?, status, out, err)?;
-    }
-    Ok(())
+    rows_hold(rt.alloc(), ROWS, row_holds)
 }
 
-/// A file that is not text, a file that no longer exists, the first of both in byte order, and no file.
-const FOLDERS: [(Site, u8, &str); 4] = [
-    (
-        Site {
-            files: &[("d/p", b"p"), ("d/z", b"\xff")],
-            names: &["z", "p"],
-        },
-        3,
-        "liquid: cannot read d/z\n",
-    ),
-    (
-        Site {
-            files: &[("d/p", b"p")],
-            names: &["p", "gone"],
-        },
-        3,
-        "liquid: cannot read d/gone\n",
-    ),
-    (
-        Site {
-            files: &[("d/b", b"\xff"), ("d/c", b"c")],
-            names: &["c", "b", "a"],
-        },
-        3,
-        "liquid: cannot read d/a\n",
-    ),
-    (
-        Site {
-            files: &[],
-            names: &[],
-        },
-        0,
-        "",
-    ),
-];
+/// A file that is not text, a file that no longer exists, the first of both in byte order, and no file. After the six
+/// places of any row come the files, each with its path and its bytes, and the names in the folder `d`.
+const FOLDERS: &str =
+    r#"["render t g.json d", "x", "{\"x\": 1}", 3, "", "liquid: cannot read d/z\n", [["d/p", "p"], ["d/z", [255]]], ["z", "p"]]
+["render t g.json d", "x", "{\"x\": 1}", 3, "", "liquid: cannot read d/gone\n", [["d/p", "p"]], ["p", "gone"]]
+["render t g.json d", "x", "{\"x\": 1}", 3, "", "liquid: cannot read d/a\n", [["d/b", [255]], ["d/c", "c"]], ["c", "b", "a"]]
+["render t g.json d", "x", "{\"x\": 1}", 0, "x", "", [], []]"#;
+
+/// Adds a file of a row. Returns `false` if it is no path with bytes, or if memory runs out.
+fn add_listed(alloc: Global, files: &mut InMemoryFolder, file: &Json) -> bool {
+    match file.get(0).and_then(Json::as_str) {
+        Some(path) => add_file(alloc, files, path, file.get(1)),
+        None => false,
+    }
+}
+
+/// Adds the files of a row. Returns `false` if one of them could not be added.
+fn add_all(alloc: Global, files: &mut InMemoryFolder, list: &Vec<Json>) -> bool {
+    for file in list {
+        if !add_listed(alloc, files, file) {
+            return false;
+        }
+    }
+    true
+}
+
+/// Adds the files of a row, if it has a list of them. Returns `false` if one of them could not be added.
+fn add_files(alloc: Global, files: &mut InMemoryFolder, row: &Line) -> bool {
+    match row.list(6) {
+        Some(list) => add_all(alloc, files, list),
+        None => false,
+    }
+}
+
+/// Adds the list of the names of a row. Returns `false` if it has none, or if memory runs out.
+fn add_own_names(alloc: Global, files: &mut InMemoryFolder, row: &Line) -> bool {
+    let mut names = Vec::new(alloc);
+    if !add_words(alloc, &mut names, row.member(7)) {
+        return false;
+    }
+    files.add_list(alloc, "d", names).is_ok()
+}
+
+/// Returns `true` if the words of a row have its answer over its own folder.
+fn folder_holds(alloc: Global, row: &Line) -> bool {
+    let mut files = InMemoryFolder::new(alloc);
+    add_pages(alloc, &mut files, row)
+        && add_files(alloc, &mut files, row)
+        && add_own_names(alloc, &mut files, row)
+        && holds_over(alloc, row, &mut files)
+}
 
 #[test]
 fn all_files_of_a_folder_are_read(rt: HostRuntime) -> Result<(), Fail> {
-    let alloc = rt.alloc();
-    for (site, status, err) in &FOLDERS {
-        let out = if *status == 0 { "x" } else { "" };
-        answers(&site.run(alloc, WITH_FOLDER, b"x")?, *status, out, err)?;
-    }
-    Ok(())
+    rows_hold(rt.alloc(), FOLDERS, folder_holds)
 }
+
+/// A row in the sandbox, over the folder of the first table.
+const SANDBOXED: &str =
+    r#"["render --sandboxed t g.json d", "{% assign x = 2 %}{{ x }}{% include \"p\" %}", "{\"x\": 1}", 0, "1[1q]", ""]"#;
 
 #[test]
 fn partials_are_in_the_sandbox(rt: HostRuntime) -> Result<(), Fail> {
-    let words = &["render", "--sandboxed", "t", "g.json", "d"];
-    let ran = SITE.run(
-        rt.alloc(),
-        words,
-        b"{% assign x = 2 %}{{ x }}{% include \"p\" %}",
-    )?;
-    answers(&ran, 0, "1[1q]", "")
+    rows_hold(rt.alloc(), SANDBOXED, row_holds)
 }

@@ -1,84 +1,20 @@
 //! The globals as the data of a sandbox, and as the runtime's own.
-use crate::runs::{RENDER, UNKNOWN, answers, ran};
+use crate::runs::row_holds;
 use std::test::Fail;
+use tests_lines::rows_hold;
 
-const SANDBOXED: &[&str] = &["render", "--sandboxed", "t", "g.json"];
-
-const UNKNOWN_INDEX: &str =
-    "liquid: Unknown index\n  with:\n    variable=x\n    requested index=y\n    available indexes=z\n";
-
-/// The words, the template, its globals, the status, and what both streams have.
-type Row = (
-    &'static [&'static str],
-    &'static [u8],
-    &'static [u8],
-    u8,
-    &'static str,
-    &'static str,
-);
-
-const ROWS: [Row; 8] = [
-    (
-        SANDBOXED,
-        b"{{ x.y }}",
-        b"{\"x\": {\"z\": 1}}",
-        1,
-        "",
-        UNKNOWN,
-    ),
-    (
-        RENDER,
-        b"{{ x.y }}",
-        b"{\"x\": {\"z\": 1}}",
-        1,
-        "",
-        UNKNOWN_INDEX,
-    ),
-    (
-        SANDBOXED,
-        b"{% assign x = 2 %}{{ x }}",
-        b"{\"x\": 1}",
-        0,
-        "1",
-        "",
-    ),
-    (
-        RENDER,
-        b"{% assign x = 2 %}{{ x }}",
-        b"{\"x\": 1}",
-        0,
-        "2",
-        "",
-    ),
-    (SANDBOXED, b"{{ x.z }}", b"{\"x\": {\"z\": 1}}", 0, "1", ""),
-    (SANDBOXED, b"a{{ x }}", b"{}", 1, "a", UNKNOWN),
-    (
-        SANDBOXED,
-        b"{{ ! }}",
-        b"{}",
-        1,
-        "",
-        "liquid: Invalid liquid (line 1, column 1)\n",
-    ),
-    (
-        SANDBOXED,
-        b"{{ x }}",
-        b"[]",
-        3,
-        "",
-        "liquid: Object cannot be an array.\n",
-    ),
-];
+/// Rows as `runs` describes them.
+const ROWS: &str =
+    r#"["render --sandboxed t g.json", "{{ x.y }}", "{\"x\": {\"z\": 1}}", 1, "", "liquid: Unknown variable\n  with:\n    requested variable=x\n"]
+["render t g.json", "{{ x.y }}", "{\"x\": {\"z\": 1}}", 1, "", "liquid: Unknown index\n  with:\n    variable=x\n    requested index=y\n    available indexes=z\n"]
+["render --sandboxed t g.json", "{% assign x = 2 %}{{ x }}", "{\"x\": 1}", 0, "1", ""]
+["render t g.json", "{% assign x = 2 %}{{ x }}", "{\"x\": 1}", 0, "2", ""]
+["render --sandboxed t g.json", "{{ x.z }}", "{\"x\": {\"z\": 1}}", 0, "1", ""]
+["render --sandboxed t g.json", "a{{ x }}", "{}", 1, "a", "liquid: Unknown variable\n  with:\n    requested variable=x\n"]
+["render --sandboxed t g.json", "{{ ! }}", "{}", 1, "", "liquid: Invalid liquid (line 1, column 1)\n"]
+["render --sandboxed t g.json", "{{ x }}", "[]", 3, "", "liquid: Object cannot be an array.\n"]"#;
 
 #[test]
 fn globals_are_data_of_a_sandbox(rt: HostRuntime) -> Result<(), Fail> {
-    for (words, template, globals, status, out, err) in &ROWS {
-        answers(
-            &ran(rt.alloc(), template, globals, words)?,
-            *status,
-            out,
-            err,
-        )?;
-    }
-    Ok(())
+    rows_hold(rt.alloc(), ROWS, row_holds)
 }

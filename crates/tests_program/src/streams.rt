@@ -1,9 +1,11 @@
 //! Outputs and error streams of any kind.
-use crate::runs::{RENDER, UNKNOWN, USAGE, folder, words_of};
+use crate::runs::{add_pages, add_words, has_bytes, has_error, has_status};
+use liquid_program::in_memory::InMemoryFolder;
 use liquid_program::run::run;
-use std::alloc::{AllocError, Global};
+use std::alloc::Global;
 use std::io::{self, BufWriter, ErrorKind, Write};
 use std::test::Fail;
+use tests_lines::{Line, rows_hold};
 
 /// A writer that takes nothing.
 #[derive(Drop)]
@@ -33,101 +35,91 @@ impl Write for Unflushed {
     }
 }
 
-/// Returns the status over an output, and what the error stream has.
-fn told<W: Write>(
+/// Returns `true` if the words of a row have its status over these files and streams.
+fn ends_over<W: Write, E: Write>(
     alloc: Global,
-    template: &str,
-    words: &[&str],
+    row: &Line,
+    files: &mut InMemoryFolder,
     out: &mut W,
-) -> Result<(u8, Vec<u8>), AllocError> {
-    let words = words_of(alloc, words)?;
-    let mut files = folder(alloc, template.as_bytes(), b"{}")?;
-    let mut err = Vec::new(alloc);
-    let status = run(alloc, words.as_slice(), &mut files, out, &mut err);
-    Ok((status, err))
+    err: &mut E,
+) -> bool {
+    let mut words = Vec::new(alloc);
+    add_words(alloc, &mut words, row.member(0))
+        && has_status(row, run(alloc, words.as_slice(), files, out, err))
 }
 
-const FAILED: &str = "liquid: Failed to render\n";
+/// Returns `true` if the words of a row have its status over these streams.
+fn ends<W: Write, E: Write>(alloc: Global, row: &Line, out: &mut W, err: &mut E) -> bool {
+    let mut files = InMemoryFolder::new(alloc);
+    add_pages(alloc, &mut files, row) && ends_over(alloc, row, &mut files, out, err)
+}
 
-// Templates and words, with the status and what the error stream has if no output can be flushed. A failed flush is
-// reported in place of an error, so the output was flushed before the error is reported.
-const UNFLUSHED: [(&str, &[&str], u8, &str); 4] = [
-    ("a", RENDER, 1, FAILED),
-    ("a{{ x }}b", RENDER, 1, FAILED),
-    (
-        "a",
-        &["render", "v", "g.json"],
-        3,
-        "liquid: cannot read v\n",
-    ),
-    ("a", &["render"], 2, USAGE),
-];
+/// Returns `true` if the words of a row have its status and its error over this output.
+fn reports<W: Write>(alloc: Global, row: &Line, out: &mut W) -> bool {
+    let mut err = Vec::new(alloc);
+    ends(alloc, row, out, &mut err) && has_error(alloc, row, err.as_slice())
+}
 
-/// Fails for an output over which the program has another status, or writes something else.
-fn tells<W: Write>(
-    alloc: Global,
-    template: &str,
-    words: &[&str],
-    out: &mut W,
-    status: u8,
-    text: &str,
-) -> Result<(), Fail> {
-    let (answered, err) = told(alloc, template, words, out)?;
-    if answered == status && err.as_slice() == text.as_bytes() {
-        Ok(())
-    } else {
-        Err(Fail::new(format_args!("another answer than {status}, {text:?}")))
-    }
+/// A row as `runs` describes it, for an output that takes nothing. What the output has is not compared, so it is `null`.
+const FULL: &str = r#"["render t g.json", "a", "{}", 1, null, "liquid: Failed to render\n"]"#;
+
+/// Rows of the same places for an output that cannot be flushed. A failed flush is reported in place of an error, so
+/// the output was flushed before the error is reported.
+const UNFLUSHED: &str = r#"["render t g.json", "a", "{}", 1, null, "liquid: Failed to render\n"]
+["render t g.json", "a{{ x }}b", "{}", 1, null, "liquid: Failed to render\n"]
+["render v g.json", "a", "{}", 3, null, "liquid: cannot read v\n"]
+["render", "a", "{}", 2, null, "USAGE"]"#;
+
+/// Returns `true` if the words of a row have its status and its error over an output that takes nothing.
+fn reports_full(alloc: Global, row: &Line) -> bool {
+    reports(alloc, row, &mut Full)
+}
+
+/// Returns `true` if the words of a row have its status and its error over an output that cannot be flushed.
+fn reports_unflushed(alloc: Global, row: &Line) -> bool {
+    reports(alloc, row, &mut Unflushed)
 }
 
 #[test]
 fn streams_may_fail(rt: HostRuntime) -> Result<(), Fail> {
-    tells(rt.alloc(), "a", RENDER, &mut Full, 1, FAILED)?;
-    for (template, words, status, text) in &UNFLUSHED {
-        tells(rt.alloc(), template, words, &mut Unflushed, *status, text)?;
-    }
-    Ok(())
+    rows_hold(rt.alloc(), FULL, reports_full)?;
+    rows_hold(rt.alloc(), UNFLUSHED, reports_unflushed)
 }
 
-/// Returns the status if neither stream works.
-fn status_unheard(alloc: Global, template: &str, words: &[&str]) -> Result<u8, AllocError> {
-    let words = words_of(alloc, words)?;
-    let mut files = folder(alloc, template.as_bytes(), b"{}")?;
-    Ok(run(
-        alloc,
-        words.as_slice(),
-        &mut files,
-        &mut Unflushed,
-        &mut Full,
-    ))
+/// Returns `true` if the words of a row have its status if neither stream works.
+fn ends_unheard(alloc: Global, row: &Line) -> bool {
+    ends(alloc, row, &mut Unflushed, &mut Full)
 }
 
 #[test]
 fn a_fault_of_the_error_stream_changes_no_status(rt: HostRuntime) -> Result<(), Fail> {
-    for (template, words, status, _) in &UNFLUSHED {
-        if status_unheard(rt.alloc(), template, words)? != *status {
-            return Err(Fail::new(*template));
-        }
-    }
-    Ok(())
+    rows_hold(rt.alloc(), UNFLUSHED, ends_unheard)
 }
 
-/// Returns `true` if a page of this length, and an error after it, pass a buffer whole.
-fn passes(alloc: Global, length: usize) -> Result<bool, Fail> {
-    let page = "0123456789 ".repeat(alloc, length)?;
-    let mut template = page.clone()?;
-    template.push_str("{{ x }}")?;
-    let mut out = BufWriter::new(alloc, Vec::new(alloc))?;
-    tells(alloc, template.as_str(), RENDER, &mut out, 1, UNKNOWN)?;
-    Ok(out.buffer().is_empty() && out.get_ref().as_slice() == page.as_bytes())
+/// Pages of several lengths, and an error after each.
+const LONG: &str =
+    r#"["render t g.json", [["0123456789 ", 1], "{{ x }}"], "{}", 1, [["0123456789 ", 1]], "liquid: Unknown variable\n  with:\n    requested variable=x\n"]
+["render t g.json", [["0123456789 ", 8191], "{{ x }}"], "{}", 1, [["0123456789 ", 8191]], "liquid: Unknown variable\n  with:\n    requested variable=x\n"]
+["render t g.json", [["0123456789 ", 8192], "{{ x }}"], "{}", 1, [["0123456789 ", 8192]], "liquid: Unknown variable\n  with:\n    requested variable=x\n"]
+["render t g.json", [["0123456789 ", 8193], "{{ x }}"], "{}", 1, [["0123456789 ", 8193]], "liquid: Unknown variable\n  with:\n    requested variable=x\n"]
+["render t g.json", [["0123456789 ", 100000], "{{ x }}"], "{}", 1, [["0123456789 ", 100000]], "liquid: Unknown variable\n  with:\n    requested variable=x\n"]"#;
+
+/// Returns `true` if the page of a row, and the error after it, pass a buffer whole.
+fn passes(alloc: Global, row: &Line, out: &mut BufWriter<Vec<u8>>) -> bool {
+    reports(alloc, row, out)
+        && out.buffer().is_empty()
+        && has_bytes(alloc, row.member(4), out.get_ref().as_slice())
+}
+
+/// Returns `true` if the page of a row, and the error after it, pass a new buffer whole.
+fn passes_a_buffer(alloc: Global, row: &Line) -> bool {
+    match BufWriter::new(alloc, Vec::new(alloc)) {
+        Ok(mut out) => passes(alloc, row, &mut out),
+        Err(_) => false,
+    }
 }
 
 #[test]
 fn long_output_passes_a_buffer(rt: HostRuntime) -> Result<(), Fail> {
-    for length in [1, 8191, 8192, 8193, 100_000] {
-        if !passes(rt.alloc(), length)? {
-            return Err(Fail::new(length));
-        }
-    }
-    Ok(())
+    rows_hold(rt.alloc(), LONG, passes_a_buffer)
 }
