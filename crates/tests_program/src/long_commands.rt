@@ -26,7 +26,7 @@ const LONG: &str = r#"["render -- - g.json", "x", "{}", 3, "", "liquid: cannot r
 ["render -- t --", "x", "{}", 3, "", "liquid: cannot read --\n"]
 ["render --turns 5 t none.json", "x", "{}", 3, "", "liquid: cannot read none.json\n"]"#;
 
-/// Words that are no command in either form.
+/// Words that are not a command in either form.
 const NONE: &str = r#"[["render", "--", "-", "-"], "x", "{}", 2, "", "USAGE"]
 [["render", "-", "-", "--lenient", "--sandboxed"], "x", "{}", 2, "", "USAGE"]
 [["render", "--turns", "t", "g.json"], "x", "{}", 2, "", "USAGE"]

@@ -45,7 +45,7 @@ const FOLDERS: &str =
 ["render t g.json d", "x", "{\"x\": 1}", 3, "", "liquid: cannot read d/a\n", [["d/b", [255]], ["d/c", "c"]], ["c", "b", "a"]]
 ["render t g.json d", "x", "{\"x\": 1}", 0, "x", "", [], []]"#;
 
-/// Adds a file of a row. Returns `false` if it is no path with bytes, or if memory runs out.
+/// Adds a file of a row. Returns `false` if it is not a path with bytes, or if memory runs out.
 fn add_listed(alloc: Global, files: &mut InMemoryFolder, file: &Json) -> bool {
     match file.get(0).and_then(Json::as_str) {
         Some(path) => add_file(alloc, files, path, file.get(1)),

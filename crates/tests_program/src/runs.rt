@@ -29,7 +29,7 @@ pub(crate) fn add_split(alloc: Global, words: &mut Vec<String>, text: &str) -> b
     true
 }
 
-/// Adds a word of a list. Returns `false` if it is no text, or if memory runs out.
+/// Adds a word of a list. Returns `false` if it is not a text, or if memory runs out.
 fn add_listed(alloc: Global, words: &mut Vec<String>, word: &Json) -> bool {
     match word.as_str() {
         Some(word) => add_word(alloc, words, word),
@@ -71,7 +71,7 @@ fn add_times(bytes: &mut Vec<u8>, text: &str, times: u64) -> bool {
     true
 }
 
-/// Adds the bytes of a pair of a text and how often it is repeated. Returns `false` if it is no such pair, or if memory
+/// Adds the bytes of a pair of a text and how often it is repeated. Returns `false` if it is not such a pair, or if memory
 /// runs out.
 fn add_repeated(bytes: &mut Vec<u8>, pair: &Json) -> bool {
     match (
@@ -83,7 +83,7 @@ fn add_repeated(bytes: &mut Vec<u8>, pair: &Json) -> bool {
     }
 }
 
-/// Adds the byte of a number. Returns `false` if it is no byte, or if memory runs out.
+/// Adds the byte of a number. Returns `false` if it is not a byte, or if memory runs out.
 fn add_byte(bytes: &mut Vec<u8>, number: Option<i64>) -> bool {
     match number {
         Some(number) => match u8::try_from(number) {
@@ -94,7 +94,7 @@ fn add_byte(bytes: &mut Vec<u8>, number: Option<i64>) -> bool {
     }
 }
 
-/// Adds the bytes of a part. Returns `false` if it is no part, or if memory runs out.
+/// Adds the bytes of a part. Returns `false` if it is not a part, or if memory runs out.
 fn add_part(bytes: &mut Vec<u8>, part: &Json) -> bool {
     match part {
         Json::String(text) => add_text(bytes, text.as_str()),
