@@ -17,7 +17,7 @@ use crate::gather::{globals_of, partials_of, text_of};
 use crate::notes::{Sources, refuse};
 use crate::pages_command::Pages;
 use crate::rendering::render_over;
-use crate::run::{report, settle};
+use crate::run::{settle, write_fault};
 use crate::write::{file_of_pages, land};
 use liquid_core::partials::InMemorySource;
 use liquid_core::{Error, Sink, WriterSink};
@@ -42,7 +42,7 @@ pub(crate) fn write_pages<F: Folder, E: Write>(
         Ok(status) => status,
         Err(fault) => {
             let paths = paths_of(pages, pages.globals);
-            report(alloc, pages.options.explain, paths, files, Err(fault), err)
+            write_fault(alloc, pages.options.explain, paths, files, Err(fault), err)
         }
     }
 }
@@ -225,7 +225,7 @@ fn report<'w, F: Folder, E: Write>(
     ensures requests { F.requests files.new ≡ F.requests files.old }
 {
     let paths = paths_of(pages, template);
-    let status = report(alloc, pages.options.explain, paths, files, answer, err);
+    let status = write_fault(alloc, pages.options.explain, paths, files, answer, err);
     if status != 0 {
         let _ = writeln!(err, "liquid: status {status}: {template}");
     }

@@ -77,7 +77,7 @@ pub fn run<F: Folder, W: Write, E: Write>(
     match Command::from_words(words) {
         Some(command) => {
             let answer = print_or_write(alloc, command, files, out);
-            report(
+            write_fault(
                 alloc,
                 command.choices.options.explain,
                 command.paths,
@@ -111,7 +111,7 @@ pub fn run_to<F: Folder, K: Sink, E: Write>(
     match Command::from_words(words) {
         Some(command) => {
             let answer = execute_or_write(alloc, command, files, sink);
-            report(
+            write_fault(
                 alloc,
                 command.choices.options.explain,
                 command.paths,
@@ -156,7 +156,7 @@ fn say_usage<E: Write>(err: &mut E) -> u8
 }
 
 /// Returns the status of an answer, and writes its fault to `err`, explained if that is asked for.
-pub(crate) fn report<F: Folder, E: Write>(
+pub(crate) fn write_fault<F: Folder, E: Write>(
     alloc: Global,
     is_explained: bool,
     paths: Paths<'_>,

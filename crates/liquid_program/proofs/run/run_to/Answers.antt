@@ -7,10 +7,10 @@ pub returns-in-Some-clause-requests : goal.returns-in-Some-clause-requests
 returns-in-Some-clause-requests g c =
     words_followed (map string_bytes c.args.words.now) (asked_of c.in-Some.command) (g.F.Folder.known c.args.files.now)
     (g.F.Folder.listed c.args.files.now) (g.F.Folder.requests c.args.files.now)
-    (g.F.Folder.requests c.execute_or_write-answer.new.files) (g.F.Folder.requests c.report.new.files) c.report.result
+    (g.F.Folder.requests c.execute_or_write-answer.new.files) (g.F.Folder.requests c.write_fault.new.files) c.write_fault.result
     c.execute_or_write-answer.result
     (sym c.from_words.ensures ∙ ap (λ o. option_map asked_of o) c.in-Some.is) c.execute_or_write-answer.ensures.requests
-    c.report.ensures.requests c.report.ensures.status
+    c.write_fault.ensures.requests c.write_fault.ensures.status
 
 pub returns-in_default-clause-requests : goal.returns-in_default-clause-requests
 returns-in_default-clause-requests g c =
