@@ -30,7 +30,7 @@
 extern "C" {
 #endif
 
-#define LIQUID_VERSION 1
+#define LIQUID_VERSION 2
 
 /* Bytes of the caller's. No zero byte ends them. */
 typedef struct liquid_bytes {
@@ -49,8 +49,10 @@ enum {
     LIQUID_SANDBOXED = 1, /* the globals are the data of a sandbox: what the template assigns goes nowhere. A
                              template of standard Liquid sees it until the page ends */
     LIQUID_LENIENT = 2,   /* a name or an index without a value is nil instead of an error */
-    LIQUID_STANDARD = 4   /* the template has the tags, blocks and filters of standard Liquid; without it, the few
+    LIQUID_STANDARD = 4,  /* the template has the tags, blocks and filters of standard Liquid; without it, the few
                              tags and blocks of liquid_tags, and no filters */
+    LIQUID_DECIMALS = 8   /* a number of the globals with a fraction is a decimal: a string of its digits, with which
+                             the standard filters calculate exactly. Without it, it is LIQUID_NO_GLOBALS */
 };
 
 typedef struct liquid_page {
@@ -73,7 +75,8 @@ enum {
     LIQUID_UNPARSED = 1,   /* the template can't be read: nothing was rendered */
     LIQUID_REFUSED = 2,    /* rendering ended early: what was rendered before is in out */
     LIQUID_BAD_JSON = 3,   /* the globals are not JSON */
-    LIQUID_NO_GLOBALS = 4, /* the JSON is not an object, or has a number that is not a whole one of 64 bits */
+    LIQUID_NO_GLOBALS = 4, /* the JSON is not an object, or has a number that is not a whole one of 64 bits, nor, with
+                              LIQUID_DECIMALS, a decimal */
     LIQUID_NO_TEXT = 5,    /* a text is not UTF-8: outcome.which says which */
     LIQUID_NO_MEMORY = 6,  /* malloc or realloc failed: a beginning of the page is in out */
     LIQUID_SHORT = 7,      /* the whole page was rendered, but is longer than out: its beginning is in out */

@@ -232,7 +232,7 @@ static void try_each(void) {
     check(whole == 1 && each[0].kind == LIQUID_OK && each[1].kind == UINT32_MAX, row.name, "fewer outcomes");
     whole = liquid_render_each(&page, globals, 0, out, sizeof out, message, 0, each, 0);
     check(whole == 0, row.name, "no globals");
-    page.options = 8;
+    page.options = 16;
     whole = liquid_render_each(&page, globals, 2, out, sizeof out, message, sizeof message, each, 4);
     check(whole == 0 && each[0].kind == LIQUID_NO_OPTIONS && each[1].kind == LIQUID_NO_OPTIONS, row.name, "no options");
     check(each[0].needed == 0 && each[0].written == 0 && each[2].kind == UINT32_MAX, row.name, "nothing written");

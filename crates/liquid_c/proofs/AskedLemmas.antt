@@ -17,7 +17,7 @@ use Rattle.liquid_c.specs.meaning.Outcomes.{Leaves, LeavesOver, Unasked}
 use Rattle.liquid_c.specs.steps.Chosen.{IsChosen, PlainLanguage, StandardLanguage}
 
 module _ (asked : Asked) (globals old new : List ℕ) (o : Outcome) where
-  never : asked.options < 8 → 8 ≤ asked.options → ⊥
+  never : asked.options < 16 → 16 ≤ asked.options → ⊥
   never within over = omega (arith, within, over)
 
   -- the page in the language of this number is left
@@ -26,7 +26,7 @@ module _ (asked : Asked) (globals old new : List ℕ) (o : Outcome) where
       (page : Page) → ComesToIn standard (page_options asked) asked.text.now globals (map bytes_of_partial asked.partials.now) page
       → Leaves page old new o
 
-  left_in : (standard : Bool) → asked.options < 8 → has_standard asked.options ≡ standard → Left standard
+  left_in : (standard : Bool) → asked.options < 16 → has_standard asked.options ≡ standard → Left standard
       → LeavesOver asked globals old new o
   left_in standard within is left = (λ _. subst Left (sym is) left, λ over. absurd (never within over))
 
@@ -34,13 +34,13 @@ module _ (asked : Asked) (globals old new : List ℕ) (o : Outcome) where
     -- there are no such options
     pub none_asked : it ≡ chosen.NoOptions → Unasked old new o → LeavesOver asked globals old new o
     none_asked same leaves =
-        let over : 8 ≤ asked.options = subst (IsChosen asked.options) same is in
+        let over : 16 ≤ asked.options = subst (IsChosen asked.options) same is in
         (λ within. absurd (never within over), λ _. leaves)
 
     -- there is no memory for the language
     pub memory_asked : it ≡ chosen.NoMemory → ((page : Page) → Leaves page old new o) → LeavesOver asked globals old new o
     memory_asked same leaves =
-        let within : asked.options < 8 = subst (IsChosen asked.options) same is in
+        let within : asked.options < 16 = subst (IsChosen asked.options) same is in
         (λ _ page comes. leaves page, λ over. absurd (never within over))
 
     -- a page in the language without filters

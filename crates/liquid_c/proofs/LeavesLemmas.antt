@@ -39,24 +39,34 @@ use Rattle.liquid_pages.specs.meaning.Shown.{Page, Begins, Shows}
 use Rattle.liquid_pages.specs.declared.fault.PageText.{PageText}
 use Rattle.liquid_pages.specs.declared.fault.PageText.TheVariants.{Template, Globals, PartialName, PartialText}
 use Rattle.liquid_c.specs.declared.page.Outcome.{Outcome}
-use Rattle.liquid_c.specs.meaning.Outcomes.{IsPlaced, IsWhere, IsWhich, Leaves, Reports, kind_of}
+use Rattle.liquid_c.specs.meaning.Outcomes.{
+  IsPlaced,
+  IsUnnamed,
+  IsWhere,
+  IsWhich,
+  Leaves,
+  OutOfMemory,
+  Reports,
+  kind_of,
+  outcome_alone,
+}
 
 -- the outcome of a fault, or of memory that ran out
 abbrev pub Ends : Option Fault → Outcome → Type 0
-Ends t o = MatchOption t (o.kind ≡ 6) (λ f. (o.kind ≡ kind_of f) × IsWhere f o)
+Ends t o = MatchOption t (OutOfMemory o) (λ f. (o.kind ≡ kind_of f) × IsWhere f o)
 
 -- the outcome of a refusal of this kind, or of memory that ran out
 abbrev pub Refuses : ℕ → Option Refusal → Outcome → Type 0
-Refuses k t o = MatchOption t (o.kind ≡ 6) (λ r. (o.kind ≡ k) × IsPlaced r.place o)
+Refuses k t o = MatchOption t (OutOfMemory o) (λ r. (o.kind ≡ k) × (IsPlaced r.place o × IsUnnamed o))
 
-pub memory_refuses : (k : ℕ) (t : Option Refusal) (o : Outcome) → IsNone t → o.kind ≡ 6 → Refuses k t o
-memory_refuses k None o none kind = kind
-memory_refuses k (Some r) o none kind = absurd (true≢false none)
+pub memory_refuses : (k : ℕ) (t : Option Refusal) (o : Outcome) → IsNone t → OutOfMemory o → Refuses k t o
+memory_refuses k None o none memory = memory
+memory_refuses k (Some r) o none memory = absurd (true≢false none)
 
 pub placed_refuses : (k : ℕ) (t : Option Refusal) (o : Outcome) (place : Option Place) → ¬ (IsNone t)
-    → place ≡ option_and_then (λ r. r.place) t → o.kind ≡ k → IsPlaced place o → Refuses k t o
-placed_refuses k None o place some is kind placed = absurd (some refl)
-placed_refuses k (Some r) o place some is kind placed = (kind, subst (λ p. IsPlaced p o) is placed)
+    → place ≡ option_and_then (λ r. r.place) t → o.kind ≡ k → IsPlaced place o → IsUnnamed o → Refuses k t o
+placed_refuses k None o place some is kind placed unnamed = absurd (some refl)
+placed_refuses k (Some r) o place some is kind placed unnamed = (kind, (subst (λ p. IsPlaced p o) is placed, unnamed))
 
 unparsed_told : (t : Option Refusal) (o : Outcome) → Refuses 1 t o → Ends (option_map unparsed t) o
 unparsed_told None o refuses = refuses
@@ -95,10 +105,10 @@ which_counted (PartialName k) o n w m is = is
 which_counted (PartialText k) o n w m is = is
 
 where_counted : (f : Fault) (o : Outcome) (n w m : ℕ) → IsWhere f o → IsWhere f (counted o n w m)
-where_counted (unparsed r) o n w m is = placed_counted r.place o n w m is
-where_counted (refused r) o n w m is = placed_counted r.place o n w m is
+where_counted (unparsed r) o n w m is = (placed_counted r.place o n w m is.0, is.1)
+where_counted (refused r) o n w m is = (placed_counted r.place o n w m is.0, is.1)
 where_counted bad_json o n w m is = is
-where_counted (no_globals r) o n w m is = placed_counted r.place o n w m is
+where_counted (no_globals r) o n w m is = (placed_counted r.place o n w m is.0, is.1)
 where_counted (no_text which) o n w m is = (placed_counted None o n w m is.0, which_counted which o n w m is.1)
 
 ends_counted : (t : Option Fault) (o : Outcome) (n w m : ℕ) → Ends t o → Ends t (counted o n w m)
@@ -106,22 +116,22 @@ ends_counted None o n w m is = is
 ends_counted (Some f) o n w m is = (is.0, where_counted f o n w m is.1)
 
 -- memory ran out before anything was rendered
-pub nothing_left : (page : Page) (old new : List ℕ) (o : Outcome) → o.kind ≡ 6 → o.needed ≡ 0 → o.written ≡ 0 → new ≡ old
-    → Leaves page old new o
-nothing_left page old new o kind needed written same =
+pub nothing_left : (page : Page) (old new : List ℕ) (o : Outcome) → o ≡ outcome_alone 6 → new ≡ old → Leaves page old new o
+nothing_left page old new o is same =
     let none : 0 ≡ min 0 (length old) = omega arith in
     let bytes : new ≡ take 0 [] ++ drop 0 old = same in
-    record {
+    let left : Leaves page old new (outcome_alone 6) = record {
       rendered = [];
-      needed = needed;
-      written = written ∙ none;
-      bytes = subst (λ k. new ≡ take k [] ++ drop k old) (sym written) bytes;
-      ends = inl (kind, (page.output, refl));
-    }
+      needed = refl;
+      written = none;
+      bytes = bytes;
+      ends = inl ((refl, ((refl, refl), (refl, refl))), (page.output, refl));
+    } in
+    subst (Leaves page old new) (sym is) left
 
 module _ (page : Page) (bytes old new : List ℕ) (o : Outcome) where
   fault_ends : (t : Option Fault) → MatchOption t (Begins bytes page) (λ f. (bytes ≡ page.output) × (page.fault ≡ Some f)) → Ends t o
-      → ((o.kind ≡ 6) × Begins bytes page) ⊎ ((bytes ≡ page.output) × Reports page.fault (length old) o)
+      → (OutOfMemory o × Begins bytes page) ⊎ ((bytes ≡ page.output) × Reports page.fault (length old) o)
   fault_ends None begins ends = inl (ends, begins)
   fault_ends (Some f) shows ends = inr (shows.0, subst (λ t. Reports t (length old) o) (sym shows.1) ends)
 
@@ -137,15 +147,16 @@ module _ (page : Page) (bytes taken old new : List ℕ) (end : Result (Unit {0})
   -- all of them
   pub whole_left : (o : Outcome) (done : Unit {0}) → end ≡ Ok done → o.needed ≡ length bytes → o.written ≡ min (length bytes) (length old)
       → new ≡ take o.written bytes ++ drop o.written old
-      → o.kind ≡ (if nat_le o.needed (length old) then 0 else 7) → IsPlaced None o → Leaves page old new o
-  whole_left o done is needed written copied kind place =
+      → o.kind ≡ (if nat_le o.needed (length old) then 0 else 7) → IsPlaced None o → IsUnnamed o → o.message_len ≡ 0
+      → Leaves page old new o
+  whole_left o done is needed written copied kind place unnamed none =
       let shown = all_shown done is in
       record {
         rendered = bytes;
         needed = needed;
         written = written;
         bytes = copied;
-        ends = inr (shown.0, subst (λ t. Reports t (length old) o) (sym shown.1) (kind, place));
+        ends = inr (shown.0, subst (λ t. Reports t (length old) o) (sym shown.1) (kind, (place, (unnamed, none))));
       }
 
   -- those before a fault

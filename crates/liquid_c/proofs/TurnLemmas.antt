@@ -30,6 +30,7 @@ use Rattle.std.proofs.Common.{
 use Rattle.std.proofs.Math.Dec.{eqb-suc-zero}
 use Rattle.std.proofs.lemmas.List.{drop-drop, drop-set-lt, map-append, take-map, take_more, take_more_set}
 use Rattle.liquid_c.specs.declared.page.Outcome.{Outcome}
+use Rattle.liquid_c.specs.meaning.Outcomes.{outcome_alone}
 use Rattle.liquid_c.specs.meaning.Turns.{AllTurns, InTurn, begun, rendered, one_if_whole}
 use Rattle.liquid_c.specs.steps.Chosen.{IsRefused}
 
@@ -73,14 +74,14 @@ none_counted (suc k) some = sym (ap one_if (eqb-suc-zero k))
 
 pub refused_turn : {X : Type 0} (f : X → List ℕ) (kind : ℕ) (out : List ℕ) (xs : List X) (os : List Outcome) (n : ℕ) (o : Outcome)
     → n < length xs → n < length os → 1 ≤ kind → InTurn (IsRefused kind) out (map f (take n xs)) (take n os) out 0 0
-    → o.kind ≡ kind → o.needed ≡ 0 → o.written ≡ 0 → InTurn (IsRefused kind) out (map f (take (n + 1) xs))
+    → o ≡ outcome_alone kind → InTurn (IsRefused kind) out (map f (take (n + 1) xs))
     (take (n + 1) (set os n o)) out 0 0
-refused_turn f kind out [] os n o within room some turns is needed written = absurd (omega (arith, within))
-refused_turn f kind out (x ∷ xs) os n o within room some turns is needed written =
-    let used : 0 + o.written ≡ 0 = omega (arith, written) in
+refused_turn f kind out [] os n o within room some turns is = absurd (omega (arith, within))
+refused_turn f kind out (x ∷ xs) os n o within room some turns is =
+    let used : 0 + o.written ≡ 0 = ap (λ (it : Outcome). 0 + it.written) is in
     subst (λ u. InTurn (IsRefused kind) out (map f (take (n + 1) (x ∷ xs))) (take (n + 1) (set os n o)) out u 0) used
-    (next_turn f (IsRefused kind) out (x ∷ xs) os out out 0 0 n 0 x o within room turns refl (is, (needed, (written, refl)))
-    (none_counted o.kind (subst (λ k. 1 ≤ k) (sym is) some)))
+    (next_turn f (IsRefused kind) out (x ∷ xs) os out out 0 0 n 0 x o within room turns refl (is, refl)
+    (none_counted o.kind (subst (λ k. 1 ≤ k) (sym (ap (λ (it : Outcome). it.kind) is)) some)))
 
 -- turns of which P is said, where P leads to Q
 module _ {P Q : List ℕ → List ℕ → List ℕ → Outcome → Type 0}

@@ -8,7 +8,7 @@ ghost use Rattle.liquid_c.specs.meaning.Languages.{filter_made, plain_language, 
 ghost use Rattle.liquid_c.specs.meaning.Options.{has_bit, has_standard, limit_of, page_frame, page_options};
 ghost use Rattle.liquid_c.specs.steps.Chosen.{IsChosen};
 
-use crate::page::{LENIENT, Page, SANDBOXED, STANDARD};
+use crate::page::{DECIMALS, LENIENT, Page, SANDBOXED, STANDARD};
 use liquid_core::parser::{Language, PluginRegistry};
 use liquid_pages::{PageFrame, PageOptions};
 use liquid_std::{StdBlocks, StdTags};
@@ -65,6 +65,7 @@ pub(crate) fn page_options(page: &Page<'_>) -> PageOptions
 {
     PageOptions {
         frame: page_frame(page.options),
+        decimals: has_bit(page.options, DECIMALS),
         lenient: has_bit(page.options, LENIENT),
         max_turns: limit_of(page.max_turns),
         max_bytes: limit_of(page.max_bytes),
@@ -91,7 +92,7 @@ fn standard_language(alloc: Global) -> Result<Rc<StandardLanguage>, AllocError>
 pub(crate) fn choose_language(alloc: Global, options: u32) -> Chosen
     ensures { IsChosen options result }
 {
-    if STANDARD * 2 <= options {
+    if DECIMALS * 2 <= options {
         return Chosen::NoOptions;
     }
     if has_bit(options, STANDARD) {

@@ -18,7 +18,7 @@ pub struct Page<'a> {
     /// A text of JSON, which is an object.
     pub globals: &'a [u8],
     pub partials: &'a [PartialBytes<'a>],
-    /// The sum of `SANDBOXED`, `LENIENT` and `STANDARD`, each at most once.
+    /// The sum of `SANDBOXED`, `LENIENT`, `STANDARD` and `DECIMALS`, each at most once.
     pub options: u32,
     /// How many turns of tags and blocks the page may take, and how many bytes it may write; 0 if that is not limited.
     pub max_turns: u64,
@@ -31,6 +31,8 @@ pub const SANDBOXED: u32 = 1;
 pub const LENIENT: u32 = 2;
 /// The template is in the standard language instead of that of `liquid_tags` without filters.
 pub const STANDARD: u32 = 4;
+/// A number of the globals with a fraction is a decimal instead of an error.
+pub const DECIMALS: u32 = 8;
 
 /// How a page ended.
 #[repr(C)]

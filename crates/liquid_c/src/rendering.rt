@@ -5,7 +5,17 @@ ghost use Rattle.liquid_parser.specs.meaning.Plugins.{language_of};
 ghost use Rattle.liquid_template.specs.meaning.Runs.{setting};
 ghost use Rattle.liquid_pages.specs.meaning.Faults.{fault_told};
 ghost use Rattle.liquid_pages.specs.meaning.Shown.{Page as Shown, IsShown};
-ghost use Rattle.liquid_c.specs.meaning.Outcomes.{IsPlaced, IsWhere, IsWhich, Leaves, LeavesAsked, kind_of};
+ghost use Rattle.liquid_c.specs.meaning.Outcomes.{
+  IsPlaced,
+  IsUnnamed,
+  IsWhere,
+  IsWhich,
+  Leaves,
+  LeavesAsked,
+  OutOfMemory,
+  kind_of,
+  outcome_alone,
+};
 ghost use Rattle.liquid_c.specs.steps.Prepared.{AskedComesTo};
 
 use crate::languages::{Chosen, choose_language, page_options};
@@ -40,9 +50,7 @@ pub fn render(alloc: Global, page: &Page<'_>, out: &mut [u8], message: &mut [u8]
 
 /// Returns the outcome of a page of which nothing was rendered, for this reason.
 pub(crate) fn refused(kind: u32) -> Outcome
-    ensures kind { result.kind ≡ kind }
-    ensures needed { result.needed ≡ 0 }
-    ensures written { result.written ≡ 0 }
+    ensures { result ≡ outcome_alone kind }
 {
     Outcome { kind, ..EMPTY }
 }
@@ -122,7 +130,7 @@ fn whole_kind(needed: usize, room: usize) -> u32
 
 /// Returns the outcome of a fault: its kind and where it is.
 fn outcome_of(fault: &PageFault) -> Outcome
-    ensures { MatchOption (fault_told fault.now) (result.kind ≡ 6) (λ f. (result.kind ≡ kind_of f) × IsWhere f result) }
+    ensures { MatchOption (fault_told fault.now) (OutOfMemory result) (λ f. (result.kind ≡ kind_of f) × IsWhere f result) }
 {
     match fault {
         PageFault::Unparsed(error) => outcome_of_error(error, 1),
@@ -140,7 +148,8 @@ fn outcome_of(fault: &PageFault) -> Outcome
 
 /// Returns the outcome of an error of this kind. Out of memory is a kind of its own.
 fn outcome_of_error(error: &Error, kind: u32) -> Outcome
-    ensures { MatchOption (told error.now) (result.kind ≡ 6) (λ r. (result.kind ≡ kind) × IsPlaced r.place result) }
+    ensures { MatchOption (told error.now) (OutOfMemory result)
+        (λ r. (result.kind ≡ kind) × (IsPlaced r.place result × IsUnnamed result)) }
 {
     if error.is_memory() {
         return Outcome {

@@ -33,11 +33,11 @@ pub fn text_of(bytes: &[u8], which: PageText) -> Result<&str, PageFault>
     }
 }
 
-/// Returns the globals of these bytes, which must be a text of JSON.
-pub fn globals_in(alloc: Global, bytes: &[u8]) -> Result<Object, PageFault>
-    ensures { Returns names_of result (names_read bytes.now) }
+/// Returns the globals of these bytes, which must be a text of JSON, with decimals or without.
+pub fn globals_in(alloc: Global, decimals: bool, bytes: &[u8]) -> Result<Object, PageFault>
+    ensures { Returns names_of result (names_read decimals bytes.now) }
 {
-    globals_of(alloc, text_of(bytes, PageText::Globals)?)
+    globals_of(alloc, decimals, text_of(bytes, PageText::Globals)?)
 }
 
 /// Returns a source of these partials. Of two with one name the later is kept.

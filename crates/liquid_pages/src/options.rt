@@ -14,14 +14,16 @@ pub enum PageFrame {
     Isolated,
 }
 
-/// Where the globals are; whether a name or an index without a value is nil instead of an error; and how many turns of
-/// tags and blocks the page may take and how many bytes it may write, if that is limited.
+/// Where the globals are; whether a number of the globals with a fraction is a decimal instead of an error; whether a name
+/// or an index without a value is nil instead of an error; and how many turns of tags and blocks the page may take and how
+/// many bytes it may write, if that is limited.
 ///
 /// At the first turn past its limit, or the first piece of text that is not whole within its limit, rendering ends with
 /// the error "Rendering was stopped". If only one of the two is limited, the limit of the other is `u64::MAX`.
 #[derive(Clone, Copy, Debug, PartialEq, Eq)]
 pub struct PageOptions {
     pub frame: PageFrame,
+    pub decimals: bool,
     pub lenient: bool,
     pub max_turns: Option<u64>,
     pub max_bytes: Option<u64>,

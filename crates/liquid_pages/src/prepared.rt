@@ -147,7 +147,7 @@ where
         ⟦<Partials<F, T, B> as PartialStore<F::Filter, T::Node, B::Node>>⟧.finds page.old.texts page.new.texts }
 {
     match &mut page.texts {
-        Some(texts) => match globals_in(alloc, globals) {
+        Some(texts) => match globals_in(alloc, options.decimals, globals) {
             Ok(globals) => render_texts::<V, F, T, B>(alloc, texts, options, globals),
             Err(fault) => nothing(alloc, fault),
         },

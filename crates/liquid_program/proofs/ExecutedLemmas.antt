@@ -28,7 +28,7 @@ use Rattle.liquid_partials.specs.meaning.Sources.{Texts}
 use Rattle.liquid_program.specs.declared.fault.Fault.{Fault}
 use Rattle.liquid_program.specs.meaning.Command.{path_words, option_words}
 use Rattle.liquid_program.specs.meaning.Gathered.{WithText, WithGlobals, WithPartials}
-use Rattle.liquid_json.specs.meaning.Given.{object_read}
+use Rattle.liquid_pages.specs.meaning.Globals.{json_object}
 use Rattle.liquid_program.specs.meaning.Program.{Renders, Fails, Finishes, Executes, status_of}
 use Rattle.liquid_program.specs.meaning.Status.{exit_status, fault_status}
 use Rattle.liquid_program.specs.steps.Steps.{Stops, Brings}
@@ -80,12 +80,12 @@ module _ (options : Options) (ending : Option (List ℕ)) (template globals : Li
       (λ partials. finishes_memory options text names partials at status one)
 
   any_globals : (text json : List ℕ) → status ≡ 1
-      → WithGlobals (object_read json) Stop (λ names. WithPartials known listed ending (option_words folder) Stop
+      → WithGlobals (json_object options.decimals json) Stop (λ names. WithPartials known listed ending (option_words folder) Stop
       (λ partials. Finishes options text names partials at at status))
-  any_globals text json one = globals_anyhow (object_read json) Stop _ (refl, inr one) (λ names. any_partials text names one)
+  any_globals text json one = globals_anyhow (json_object options.decimals json) Stop _ (refl, inr one) (λ names. any_partials text names one)
 
   any_json : (text : List ℕ) → status ≡ 1
-      → WithText (known globals) Stop (λ json. WithGlobals (object_read json) Stop
+      → WithText (known globals) Stop (λ json. WithGlobals (json_object options.decimals json) Stop
       (λ names. WithPartials known listed ending (option_words folder) Stop
       (λ partials. Finishes options text names partials at at status)))
   any_json text one = text_anyhow (known globals) Stop _ (refl, inr one) (λ json. any_globals text json one)
@@ -100,7 +100,7 @@ module _ (options : Options) (ending : Option (List ℕ)) (template globals : Li
   module _ (text : String Global) (there : WithText (known template) (Stops (Ok text)) (λ bytes. Brings string_bytes bytes (Ok text))) where
     abbrev Following : List ℕ → Type 0
     Following bytes =
-        WithText (known globals) Stop (λ json. WithGlobals (object_read json) Stop
+        WithText (known globals) Stop (λ json. WithGlobals (json_object options.decimals json) Stop
         (λ names. WithPartials known listed ending (option_words folder) Stop
         (λ partials. Finishes options bytes names partials at at status)))
 
@@ -118,7 +118,7 @@ module _ (options : Options) (ending : Option (List ℕ)) (template globals : Li
       where
         abbrev Given : List ℕ → Type 0
         Given bytes =
-            WithGlobals (object_read bytes) Stop (λ names. WithPartials known listed ending (option_words folder) Stop
+            WithGlobals (json_object options.decimals bytes) Stop (λ names. WithPartials known listed ending (option_words folder) Stop
             (λ partials. Finishes options (string_bytes text) names partials at at status))
 
         with_json : Given (string_bytes json) → Execution
@@ -126,13 +126,13 @@ module _ (options : Options) (ending : Option (List ℕ)) (template globals : Li
             with_template (text_follows (known globals) _ Stop _ _ (λ never. absurd never) (λ bytes same. subst Given same given) found)
 
         pub no_globals : (fault : Fault) → status ≡ fault_status fault
-            → WithGlobals (object_read (string_bytes json)) (Stops {A = BTreeMap (String Global) Value} (Err fault))
+            → WithGlobals (json_object options.decimals (string_bytes json)) (Stops {A = BTreeMap (String Global) Value} (Err fault))
             (λ names. Brings names_of names (Err fault)) → Execution
         no_globals fault is step =
             with_json (globals_follow _ _ Stop _ _ (stopped (BTreeMap (String Global) Value) fault at status is)
             (λ names memory. any_partials (string_bytes text) names (is ∙ memory)) step)
 
-        module _ (object : BTreeMap (String Global) Value) (given : WithGlobals (object_read (string_bytes json)) (Stops (Ok object))
+        module _ (object : BTreeMap (String Global) Value) (given : WithGlobals (json_object options.decimals (string_bytes json)) (Stops (Ok object))
             (λ names. Brings names_of names (Ok object))) where
           abbrev Parts : Names → Type 0
           Parts names =
@@ -154,7 +154,7 @@ pub executed : (options : Options) (ending : Option (List ℕ)) (template global
     (text json : String Global) (object : BTreeMap (String Global) Value) (source : Option Texts) (result : Result (Unit {0}) Error)
     → WithText (known template) (Stops (Ok text)) (λ bytes. Brings string_bytes bytes (Ok text))
     → WithText (known globals) (Stops (Ok json)) (λ bytes. Brings string_bytes bytes (Ok json))
-    → WithGlobals (object_read (string_bytes json)) (Stops (Ok object)) (λ names. Brings names_of names (Ok object))
+    → WithGlobals (json_object options.decimals (string_bytes json)) (Stops (Ok object)) (λ names. Brings names_of names (Ok object))
     → WithPartials known listed ending (option_words folder) (Stops (Ok source))
     (λ partials. Brings (λ (s : Option Texts). s) partials (Ok source))
     → Renders options (string_bytes text) (names_of object) source before after result → status ≡ status_of result
@@ -165,11 +165,11 @@ executed options ending template globals folder known listed before after status
     record { result = result; renders = renders; status_is = is } in
     text_follows (known template) _ _ _ _ (λ never. absurd never)
     (λ bytes same. subst (λ b. WithText (known globals) (Fails before after status)
-    (λ j. WithGlobals (object_read j) (Fails before after status)
+    (λ j. WithGlobals (json_object options.decimals j) (Fails before after status)
     (λ names. WithPartials known listed ending (option_words folder) (Fails before after status)
     (λ partials. Finishes options b names partials before after status)))) same
     (text_follows (known globals) _ _ _ _ (λ never. absurd never)
-    (λ bytes same. subst (λ j. WithGlobals (object_read j) (Fails before after status)
+    (λ bytes same. subst (λ j. WithGlobals (json_object options.decimals j) (Fails before after status)
     (λ names. WithPartials known listed ending (option_words folder) (Fails before after status)
     (λ partials. Finishes options (string_bytes text) names partials before after status))) same
     (globals_follow _ _ _ _ _ (λ never. absurd never)

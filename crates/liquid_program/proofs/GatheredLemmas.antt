@@ -21,8 +21,7 @@ use Rattle.liquid_program.specs.meaning.Gathered.{
   in_order,
   path_in,
 }
-use Rattle.liquid_json.specs.meaning.Given.{object_read}
-use Rattle.liquid_pages.specs.meaning.Globals.{global_names}
+use Rattle.liquid_pages.specs.meaning.Globals.{global_names, json_object}
 
 abbrev pub Files : Type 0
 Files = List ℕ → Option (Option (List ℕ))
@@ -73,18 +72,18 @@ partials_follow known listed ending (folder ∷ words) stop stops next goes on_s
     folder_follows known folder ending (listed (is_some ending) folder) stop stops (λ texts. next (Some texts))
     (λ texts. goes (Some texts)) on_stop (λ texts. on_partials (Some texts)) with
 
-pub gathers_follow : (words : List (List ℕ)) (ending : Option (List ℕ)) (known : Files) (listed : Folders) (stop stops : Type 0)
+pub gathers_follow : (decimals : Bool) (words : List (List ℕ)) (ending : Option (List ℕ)) (known : Files) (listed : Folders) (stop stops : Type 0)
     (next goes : List ℕ → Names → Option Texts → Type 0)
     → (stop → stops) → ((text : List ℕ) (names : Names) (partials : Option Texts) → next text names partials → goes text names partials)
-    → Gathers words ending known listed stop next → Gathers words ending known listed stops goes
-gathers_follow (template ∷ globals ∷ rest) ending known listed stop stops next goes on_stop on_next gathers =
+    → Gathers decimals words ending known listed stop next → Gathers decimals words ending known listed stops goes
+gathers_follow decimals (template ∷ globals ∷ rest) ending known listed stop stops next goes on_stop on_next gathers =
     text_follows (known template) stop stops _ _ on_stop
     (λ text. text_follows (known globals) stop stops _ _ on_stop
-    (λ json. globals_follow (object_read json) stop stops _ _ on_stop
+    (λ json. globals_follow (json_object decimals json) stop stops _ _ on_stop
     (λ names. partials_follow known listed ending rest stop stops (λ partials. next text names partials)
     (λ partials. goes text names partials) on_stop (λ partials. on_next text names partials)))) gathers
-gathers_follow [] ending known listed stop stops next goes on_stop on_next gathers = tt
-gathers_follow (template ∷ []) ending known listed stop stops next goes on_stop on_next gathers = tt
+gathers_follow decimals [] ending known listed stop stops next goes on_stop on_next gathers = tt
+gathers_follow decimals (template ∷ []) ending known listed stop stops next goes on_stop on_next gathers = tt
 
 pub text_anyhow : (file : Option (Option (List ℕ))) (stop : Type 0) (next : List ℕ → Type 0) → stop → ((text : List ℕ) → next text)
     → WithText file stop next

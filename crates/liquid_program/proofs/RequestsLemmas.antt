@@ -249,12 +249,12 @@ follows_nothing before after status same = (Ok status, inl (same ∙ sym (also_n
 -- the words of a command for one page
 pub words_followed : (words : List (List ℕ)) (asked : Asked) (known : Files) (listed : Folders) (before between after : Requests)
     (status : ℕ) (answer : Result (Unit {0}) Fault) → command_of words ≡ Some asked
-    → WhereKnown known listed (λ all folders. Follows (command_steps all folders asked.paths asked.choices.ending) before between answer)
+    → WhereKnown known listed (λ all folders. Follows (command_steps all folders asked.choices.options.decimals asked.paths asked.choices.ending) before between answer)
     → after ≡ between → status ≡ exit_status answer
     → FollowsWords words known listed before after status
 words_followed words asked known listed before between after status answer is follows same status_is = λ all folders here there.
-    let steps = command_steps all folders asked.paths asked.choices.ending in
-    subst (λ c. FollowsTo (option_map_or (λ (a : Asked). command_steps all folders a.paths a.choices.ending) c
+    let steps = command_steps all folders asked.choices.options.decimals asked.paths asked.choices.ending in
+    subst (λ c. FollowsTo (option_map_or (λ (a : Asked). command_steps all folders a.choices.options.decimals a.paths a.choices.ending) c
     (option_map_or (pages_steps all folders) (pages_of words) [])) before after status) (sym is)
     (subst (λ a. FollowsTo steps before a status) (sym same) (follows_to steps before between status answer status_is
     (follows all folders here there)))
@@ -265,7 +265,7 @@ pub others_followed : (words : List (List ℕ)) (known : Files) (listed : Folder
     → WhereKnown known listed (λ all folders. FollowsTo (option_map_or (pages_steps all folders) (pages_of words) []) before after status)
     → FollowsWords words known listed before after status
 others_followed words known listed before after status is follows = λ all folders here there.
-    subst (λ c. FollowsTo (option_map_or (λ (a : Asked). command_steps all folders a.paths a.choices.ending) c
+    subst (λ c. FollowsTo (option_map_or (λ (a : Asked). command_steps all folders a.choices.options.decimals a.paths a.choices.ending) c
     (option_map_or (pages_steps all folders) (pages_of words) [])) before after status) (sym is) (follows all folders here there)
 
 pub pages_words_followed : (words : List (List ℕ)) (pages : AskedPages) (known : Files) (listed : Folders) (before after : Requests)

@@ -8,7 +8,7 @@ use Rattle.std.specs.Option.{option_map_or, unwrap_or}
 use Rattle.std.specs.Str.{is_utf8}
 use Rattle.std.specs.FinMap.{empty, keys}
 use Rattle.liquid_plugins.specs.meaning.Registry.{by_name}
-use Rattle.liquid_json.specs.meaning.Given.{object_read}
+use Rattle.liquid_pages.specs.meaning.Globals.{json_object}
 use Rattle.liquid_program.specs.declared.fault.Fault.{Fault}
 use Rattle.liquid_program.specs.declared.fault.Fault.TheVariants.{Refused, Explained, Usage, Unreadable, UnreadableInFolder, Unwritable}
 use Rattle.liquid_program.specs.declared.fault.Fault.TheVariants.{BadJson, NoGlobals}
@@ -92,30 +92,30 @@ brought None text read = absurd read
 brought (Some bytes) text read = brought_case bytes (is_utf8 bytes) text refl read
 
 -- globals that are not text
-pub globals_unread : (file : Option (List ℕ)) (path : List ℕ) (fault : Fault) → ReportsSome (text_trouble path file) fault
-    → ReportsSome (globals_trouble path file) fault
-globals_unread file path fault (inl is) =
-    inl (is.0, ap (λ t. option_map_or Some t (object_trouble path (object_read (unwrap_or file [])))) is.1, is.2)
-globals_unread file path fault (inr memory) = inr memory
+pub globals_unread : (decimals : Bool) (file : Option (List ℕ)) (path : List ℕ) (fault : Fault) → ReportsSome (text_trouble path file) fault
+    → ReportsSome (globals_trouble decimals path file) fault
+globals_unread decimals file path fault (inl is) =
+    inl (is.0, ap (λ t. option_map_or Some t (object_trouble path (json_object decimals (unwrap_or file [])))) is.1, is.2)
+globals_unread decimals file path fault (inr memory) = inr memory
 
 -- globals that are a text have the trouble of its JSON
-pub globals_known : (file : Option (List ℕ)) (here : Option (Option (List ℕ))) (path : List ℕ) (text : String Global) → here ≡ Some file
+pub globals_known : (decimals : Bool) (file : Option (List ℕ)) (here : Option (Option (List ℕ))) (path : List ℕ) (text : String Global) → here ≡ Some file
     → WithText here (Stops (Ok text)) (λ bytes. Brings (string_bytes {Z = Global}) bytes (Ok text))
-    → globals_trouble path file ≡ object_trouble path (object_read (string_bytes text))
-globals_known file here path text known read =
+    → globals_trouble decimals path file ≡ object_trouble path (json_object decimals (string_bytes text))
+globals_known decimals file here path text known read =
     let there : ReadText file (Ok text) =
     subst (λ h. WithText h (Stops (Ok text)) (λ bytes. Brings (string_bytes {Z = Global}) bytes (Ok text))) known read in
     let none : text_trouble path file ≡ None = text_reports file path (Ok text) there tt in
-    ap (λ t. option_map_or Some t (object_trouble path (object_read (unwrap_or file [])))) none
-    ∙ ap (λ b. object_trouble path (object_read b)) (brought file text there)
+    ap (λ t. option_map_or Some t (object_trouble path (json_object decimals (unwrap_or file [])))) none
+    ∙ ap (λ b. object_trouble path (json_object decimals b)) (brought file text there)
 
-pub globals_refused : (file : Option (List ℕ)) (here : Option (Option (List ℕ))) (path : List ℕ) (text : String Global) (fault : Fault)
+pub globals_refused : (decimals : Bool) (file : Option (List ℕ)) (here : Option (Option (List ℕ))) (path : List ℕ) (text : String Global) (fault : Fault)
     → here ≡ Some file
     → WithText here (Stops (Ok text)) (λ bytes. Brings (string_bytes {Z = Global}) bytes (Ok text))
-    → ReportsSome (object_trouble path (object_read (string_bytes text))) fault
-    → ReportsSome (globals_trouble path file) fault
-globals_refused file here path text fault known read reports =
-    subst (λ any. ReportsSome any fault) (sym (globals_known file here path text known read)) reports
+    → ReportsSome (object_trouble path (json_object decimals (string_bytes text))) fault
+    → ReportsSome (globals_trouble decimals path file) fault
+globals_refused decimals file here path text fault known read reports =
+    subst (λ any. ReportsSome any fault) (sym (globals_known decimals file here path text known read)) reports
 
 -- the names of a folder can't be read
 pub folder_stops : (files : FilesAt) (folder : List ℕ) (ending : Option (List ℕ)) (names : Option (List (List ℕ)))
@@ -241,16 +241,16 @@ folder_named files folders ending folder named is =
     ap (λ (f : Option (Bor (List ℕ))). partials_steps files folders (option_words (option_map (λ (w : Bor (List ℕ)). w.now) f)) ending) is
 
 -- a command
-module _ (files : FilesAt) (folders : FoldersAt) (template globals : List ℕ) (words : List (List ℕ)) (ending : Option (List ℕ))
+module _ (files : FilesAt) (folders : FoldersAt) (decimals : Bool) (template globals : List ℕ) (words : List (List ℕ)) (ending : Option (List ℕ))
     (before : Requests) where
   abbrev Steps : List Step
-  Steps = command_steps files folders (template ∷ globals ∷ words) ending
+  Steps = command_steps files folders decimals (template ∷ globals ∷ words) ending
 
   abbrev Parts : List Step
   Parts = partials_steps files folders words ending
 
   abbrev AfterTemplate : List Step
-  AfterTemplate = globals_at files globals ∷ Parts
+  AfterTemplate = globals_at files decimals globals ∷ Parts
 
   pub template_stops : (after : Requests) (fault : Fault) → after ≡ also before (reading template ∷ [])
       → ReportsSome (text_trouble template (files template)) fault → FollowsFault Steps before after fault
@@ -265,30 +265,30 @@ module _ (files : FilesAt) (folders : FoldersAt) (template globals : List ℕ) (
     after_template = one_clear (reading template) (text_trouble template (files template)) before first made there
 
     pub globals_stop : (after : Requests) (fault : Fault) → after ≡ also first (reading globals ∷ [])
-        → ReportsSome (globals_trouble globals (files globals)) fault → FollowsFault Steps before after fault
+        → ReportsSome (globals_trouble decimals globals (files globals)) fault → FollowsFault Steps before after fault
     globals_stop after fault same reports =
         follows_stop Steps before after fault
         (some_then (text_at files template ∷ []) AfterTemplate before first after fault after_template
-        (collects_stop (globals_at files globals ∷ []) Parts first after fault
-        (one_stops (reading globals) (globals_trouble globals (files globals)) first after fault same reports)))
+        (collects_stop (globals_at files decimals globals ∷ []) Parts first after fault
+        (one_stops (reading globals) (globals_trouble decimals globals (files globals)) first after fault same reports)))
 
     module _ (second : Requests) (also_made : second ≡ also first (reading globals ∷ []))
-        (found : globals_trouble globals (files globals) ≡ None) where
-      after_globals : CollectsAll (globals_at files globals ∷ []) first second
-      after_globals = one_clear (reading globals) (globals_trouble globals (files globals)) first second also_made found
+        (found : globals_trouble decimals globals (files globals) ≡ None) where
+      after_globals : CollectsAll (globals_at files decimals globals ∷ []) first second
+      after_globals = one_clear (reading globals) (globals_trouble decimals globals (files globals)) first second also_made found
 
       pub partials_stop : (after : Requests) (fault : Fault) → CollectsSome Parts second after fault → FollowsFault Steps before after fault
       partials_stop after fault collects =
           follows_stop Steps before after fault
           (some_then (text_at files template ∷ []) AfterTemplate before first after fault after_template
-          (some_then (globals_at files globals ∷ []) Parts first second after fault after_globals collects))
+          (some_then (globals_at files decimals globals ∷ []) Parts first second after fault after_globals collects))
 
       pub all_followed : {B : Type 0} (after : Requests) (result : Result B Fault) → CollectsAll Parts second after
           → trouble_in result ≡ None → Follows Steps before after result
       all_followed after result collects none =
           follows_done Steps before after result
           (all_then (text_at files template ∷ []) AfterTemplate before first after after_template
-          (all_then (globals_at files globals ∷ []) Parts first second after after_globals collects)) none
+          (all_then (globals_at files decimals globals ∷ []) Parts first second after after_globals collects)) none
 
 -- several pages
 module _ (files : FilesAt) (folders : FoldersAt) (pages : AskedPages) (before : Requests) where
@@ -299,29 +299,29 @@ module _ (files : FilesAt) (folders : FoldersAt) (pages : AskedPages) (before : 
   AfterGlobals = PagesParts ++ map template_step pages.templates
 
   pub pages_stop : (after : Requests) (fault : Fault) → after ≡ also before (reading pages.globals ∷ [])
-      → ReportsSome (globals_trouble pages.globals (files pages.globals)) fault
+      → ReportsSome (globals_trouble pages.options.decimals pages.globals (files pages.globals)) fault
       → FollowsFault (pages_steps files folders pages) before after fault
   pages_stop after fault same reports =
       follows_stop (pages_steps files folders pages) before after fault
-      (collects_stop (globals_at files pages.globals ∷ []) AfterGlobals before after fault
-      (one_stops (reading pages.globals) (globals_trouble pages.globals (files pages.globals)) before after fault same reports))
+      (collects_stop (globals_at files pages.options.decimals pages.globals ∷ []) AfterGlobals before after fault
+      (one_stops (reading pages.globals) (globals_trouble pages.options.decimals pages.globals (files pages.globals)) before after fault same reports))
 
   module _ (first : Requests) (made : first ≡ also before (reading pages.globals ∷ []))
-      (found : globals_trouble pages.globals (files pages.globals) ≡ None) where
-    after_pages_globals : CollectsAll (globals_at files pages.globals ∷ []) before first
-    after_pages_globals = one_clear (reading pages.globals) (globals_trouble pages.globals (files pages.globals)) before first made found
+      (found : globals_trouble pages.options.decimals pages.globals (files pages.globals) ≡ None) where
+    after_pages_globals : CollectsAll (globals_at files pages.options.decimals pages.globals ∷ []) before first
+    after_pages_globals = one_clear (reading pages.globals) (globals_trouble pages.options.decimals pages.globals (files pages.globals)) before first made found
 
     pub pages_partials_stop : (after : Requests) (fault : Fault) → CollectsSome PagesParts first after fault
         → FollowsFault (pages_steps files folders pages) before after fault
     pages_partials_stop after fault collects =
         follows_stop (pages_steps files folders pages) before after fault
-        (some_then (globals_at files pages.globals ∷ []) AfterGlobals before first after fault after_pages_globals
+        (some_then (globals_at files pages.options.decimals pages.globals ∷ []) AfterGlobals before first after fault after_pages_globals
         (collects_stop PagesParts (map template_step pages.templates) first after fault collects))
 
     pub pages_followed : (read after : Requests) (status : ℕ) → CollectsAll PagesParts first read
         → after ≡ also read (map reading pages.templates) → Follows {A = ℕ} (pages_steps files folders pages) before after (Ok status)
     pages_followed read after status collects each =
         follows_done (pages_steps files folders pages) before after (Ok status)
-        (all_then (globals_at files pages.globals ∷ []) AfterGlobals before first after after_pages_globals
+        (all_then (globals_at files pages.options.decimals pages.globals ∷ []) AfterGlobals before first after after_pages_globals
         (all_then PagesParts (map template_step pages.templates) first read after collects
         (templates_collect pages.templates read after each))) refl

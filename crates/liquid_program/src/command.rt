@@ -23,7 +23,7 @@ use crate::long_command::{PathsRead, long_command};
 ///
 /// The short form is `render [--standard] [--sandboxed] [--lenient] TEMPLATE GLOBALS.json [DIR]`. Words that are not of
 /// this form may be of the long one: `render`, and then options and paths in any order. It has the options
-/// `--explain`, `--turns N`, `--bytes N`, `--ext .EXT` and `-o FILE` too. After the word `--` all words are paths. Each
+/// `--decimals`, `--explain`, `--turns N`, `--bytes N`, `--ext .EXT` and `-o FILE` too. After the word `--` all words are paths. Each
 /// option is given at most once.
 #[derive(Clone, Copy)]
 pub struct Command<'w> {
@@ -47,12 +47,14 @@ pub struct Choices<'w> {
 }
 
 /// Whether to render with the standard filters, whether to render in a sandbox, whether a name without a value is nil
-/// instead of an error, whether errors are explained, and how many turns and bytes the page may take, if that is limited.
+/// instead of an error, whether a number of the globals with a fraction is a decimal instead of an error, whether errors
+/// are explained, and how many turns and bytes the page may take, if that is limited.
 #[derive(Clone, Copy)]
 pub struct Options {
     pub standard: bool,
     pub sandboxed: bool,
     pub lenient: bool,
+    pub decimals: bool,
     pub explain: bool,
     pub max_turns: Option<u64>,
     pub max_bytes: Option<u64>,
@@ -81,6 +83,7 @@ pub(crate) const NO_OPTIONS: Options = Options {
     standard: false,
     sandboxed: false,
     lenient: false,
+    decimals: false,
     explain: false,
     max_turns: None,
     max_bytes: None,

@@ -3,7 +3,7 @@ ghost use Rattle.std.specs.Prelude.{◌≡◌, ◌≢◌, ℕ, List, [], ◌∷�
 ghost use Rattle.std.specs.FinMap.{empty, keys};
 ghost use Rattle.liquid_runtime.specs.meaning.Maps.{names_of};
 ghost use Rattle.liquid_plugins.specs.meaning.Registry.{by_name};
-ghost use Rattle.liquid_json.specs.meaning.Given.{object_read};
+ghost use Rattle.liquid_pages.specs.meaning.Globals.{json_object};
 ghost use Rattle.liquid_program.specs.meaning.Command.{option_words};
 ghost use Rattle.liquid_program.specs.meaning.Gathered.{
   names_into,
@@ -254,13 +254,18 @@ fn texts_of<'w, F: Folder>(
     Ok(source)
 }
 
-/// Returns the globals of a text of JSON, which was read from this path.
-pub(crate) fn globals_of<'w>(alloc: Global, text: &str, path: &'w str) -> Result<Object, Fault<'w>>
-    ensures globals { WithGlobals (object_read text.now) (Stops result) (λ names. Brings names_of names result) }
-    ensures reports { ReportsAny (object_trouble path.now (object_read text.now)) result }
+/// Returns the globals of a text of JSON, with decimals or without, which was read from this path.
+pub(crate) fn globals_of<'w>(
+    alloc: Global,
+    decimals: bool,
+    text: &str,
+    path: &'w str,
+) -> Result<Object, Fault<'w>>
+    ensures globals { WithGlobals (json_object decimals text.now) (Stops result) (λ names. Brings names_of names result) }
+    ensures reports { ReportsAny (object_trouble path.now (json_object decimals text.now)) result }
     ensures command { IfErr result (λ fault. fault_status fault ≢ 2) }
 {
-    match liquid_pages::globals_of(alloc, text) {
+    match liquid_pages::globals_of(alloc, decimals, text) {
         Ok(object) => Ok(object),
         Err(PageFault::BadJson(error)) => {
             Err(Fault::BadJson(path, note_of_text(alloc, text, &error)))
@@ -268,7 +273,7 @@ pub(crate) fn globals_of<'w>(alloc: Global, text: &str, path: &'w str) -> Result
         Err(PageFault::NoGlobals(error)) => if error.is_memory() {
             Err(Fault::Refused(error))
         } else {
-            Err(Fault::NoGlobals(error, note_of_number(alloc, text)))
+            Err(Fault::NoGlobals(error, note_of_number(alloc, decimals, text)))
         },
         Err(_) => Err(Fault::Refused(Error::Memory)),
     }

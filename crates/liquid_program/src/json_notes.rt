@@ -21,8 +21,11 @@ pub(crate) fn note_of_text(alloc: Global, text: &str, error: &Error) -> String {
 }
 
 /// Returns the path in an object of JSON to the first number that is not a whole number of 64 bits, after the word `at`.
-/// Returns nothing if there is no such number, or if memory runs out.
-pub(crate) fn note_of_number(alloc: Global, text: &str) -> String {
+/// Returns nothing if there is no such number, if numbers may be decimals, or if memory runs out.
+pub(crate) fn note_of_number(alloc: Global, decimals: bool, text: &str) -> String {
+    if decimals {
+        return String::new(alloc);
+    }
     match unfit_number(alloc, text) {
         Ok(Some(path)) => path,
         _ => String::new(alloc),

@@ -148,6 +148,11 @@ pub(crate) fn with_long_option(word: &str, options: Options) -> Option<Options>
             explain: true,
             ..options
         })
+    } else if word == "--decimals" && !options.decimals {
+        Some(Options {
+            decimals: true,
+            ..options
+        })
     } else {
         with_option(word, options)
     }

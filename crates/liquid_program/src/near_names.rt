@@ -3,10 +3,15 @@
 use liquid_pages::globals_of;
 use std::alloc::{AllocError, Global};
 
-/// Returns the names of the globals of a text of JSON that are near a name, in byte order, with commas between them.
-pub(crate) fn near_names(alloc: Global, json: &str, name: &str) -> Result<String, AllocError> {
+/// Returns the names of the globals of a text of JSON, with decimals or without, that are near a name, in byte order, with commas between them.
+pub(crate) fn near_names(
+    alloc: Global,
+    decimals: bool,
+    json: &str,
+    name: &str,
+) -> Result<String, AllocError> {
     let mut names = String::new(alloc);
-    let Ok(globals) = globals_of(alloc, json) else {
+    let Ok(globals) = globals_of(alloc, decimals, json) else {
         return Ok(names);
     };
     for other in globals.keys() {

@@ -55,7 +55,7 @@ fn collect_notes(
     };
     match error.place() {
         None => match requested_variable(message) {
-            Some(name) if !options.sandboxed => note_of_names(alloc, sources.json, name),
+            Some(name) if !options.sandboxed => note_of_names(alloc, options.decimals, sources.json, name),
             _ => Ok(String::new(alloc)),
         },
         Some(place) => match partial_in(message) {
@@ -95,8 +95,13 @@ fn partial_in(message: &str) -> Option<&str> {
     None
 }
 
-fn note_of_names(alloc: Global, json: &str, name: &str) -> Result<String, AllocError> {
-    let names = near_names(alloc, json, name)?;
+fn note_of_names(
+    alloc: Global,
+    decimals: bool,
+    json: &str,
+    name: &str,
+) -> Result<String, AllocError> {
+    let names = near_names(alloc, decimals, json, name)?;
     if names.is_empty() {
         return Ok(names);
     }

@@ -1,7 +1,7 @@
 //! Writing several pages over the same globals and partials.
 ghost use Rattle.std.specs.Prelude.{◌≡◌, ◌≢◌, [], ◌∷◌, IfOk, map, string_bytes, ⊤};
 ghost use Rattle.liquid_template.specs.meaning.Grows.{Grows};
-ghost use Rattle.liquid_json.specs.meaning.Given.{object_read};
+ghost use Rattle.liquid_pages.specs.meaning.Globals.{json_object};
 ghost use Rattle.liquid_program.specs.meaning.Files.{also, reading};
 ghost use Rattle.liquid_program.specs.meaning.Gathered.{WithGlobals};
 ghost use Rattle.liquid_program.specs.meaning.PagesCommand.{asked_pages};
@@ -62,7 +62,12 @@ fn write_all<'w, F: Folder, E: Write>(
     ensures quiet { all_status result ≡ 0 → err.new ≡ err.old }
 {
     let json = text_of(alloc, files, pages.globals)?;
-    drop(globals_of(alloc, json.as_str(), pages.globals)?);
+    drop(globals_of(
+        alloc,
+        pages.options.decimals,
+        json.as_str(),
+        pages.globals,
+    )?);
     let partials = partials_of(alloc, files, pages.ending, pages.partials)?;
     Ok(write_each(
         alloc,
@@ -88,7 +93,7 @@ fn write_each<'w, F: Folder, E: Write>(
     err: &mut E,
 ) -> u8
     ensures command { status ≢ 2 → result ≢ 2 }
-    ensures writes { WithGlobals (object_read json.now) ⊤ (λ globals. WritesEach (asked_pages pages.entry) globals partials.now
+    ensures writes { WithGlobals (json_object pages.entry.options.decimals json.now) ⊤ (λ globals. WritesEach (asked_pages pages.entry) globals partials.now
         (map string_bytes templates.now) (F.known files.old) (F.known files.new) status result) }
     ensures requests { F.requests files.new ≡ also (F.requests files.old) (map reading (map string_bytes templates.now)) }
     ensures first { status ≢ 0 → result ≡ status }
@@ -118,7 +123,7 @@ fn write_one<'w, F: Folder>(
     files: &mut F,
 ) -> Result<(), Fault<'w>>
     ensures command { exit_status result ≢ 2 }
-    ensures writes { WithGlobals (object_read json.now) ⊤ (λ globals. WritesOne (asked_pages pages.entry) globals partials.now
+    ensures writes { WithGlobals (json_object pages.entry.options.decimals json.now) ⊤ (λ globals. WritesOne (asked_pages pages.entry) globals partials.now
         template.now (F.known files.old) (F.known files.new) (exit_status result)) }
     ensures requests { F.requests files.new ≡ also (F.requests files.old) (reading template.now ∷ []) }
 {
@@ -141,7 +146,7 @@ fn print_one<'w, F: Folder, W: Write>(
     out: &mut W,
 ) -> Result<(), Fault<'w>>
     ensures command { exit_status result ≢ 2 }
-    ensures prints { WithGlobals (object_read json.now) ⊤ (λ globals. Printed
+    ensures prints { WithGlobals (json_object pages.entry.options.decimals json.now) ⊤ (λ globals. Printed
         (ExecutesOne pages.entry.options template.now globals partials.now (F.known files.old))
         (W.contents out.old) (W.contents out.new) (exit_status result)) }
     ensures same { F.known files.new ≡ F.known files.old }
@@ -165,7 +170,7 @@ fn execute_one<'w, F: Folder, K: Sink>(
     sink: &mut K,
 ) -> Result<(), Fault<'w>>
     ensures command { exit_status result ≢ 2 }
-    ensures executes { WithGlobals (object_read json.now) ⊤ (λ globals.
+    ensures executes { WithGlobals (json_object pages.entry.options.decimals json.now) ⊤ (λ globals.
         ExecutesOne pages.entry.options template.now globals partials.now (F.known files.old)
         (K.sunk sink.old) (K.sunk sink.new) (exit_status result)) }
     ensures same { F.known files.new ≡ F.known files.old }
@@ -174,7 +179,7 @@ fn execute_one<'w, F: Folder, K: Sink>(
     ensures borrows { (K.sunk sink.new).lent ≡ (K.sunk sink.old).lent }
 {
     let text = text_of(alloc, files, template)?;
-    let globals = globals_of(alloc, json, pages.globals)?;
+    let globals = globals_of(alloc, pages.options.decimals, json, pages.globals)?;
     let Ok(copy) = copied(partials) else {
         return Err(Fault::Refused(Error::Memory));
     };

@@ -132,12 +132,14 @@ fn page_options(options: Options) -> PageOptions
         standard,
         sandboxed,
         lenient,
+        decimals,
         max_turns,
         max_bytes,
         ..
     } = options;
     PageOptions {
         frame: page_frame(standard, sandboxed),
+        decimals,
         lenient,
         max_turns,
         max_bytes,

@@ -194,7 +194,8 @@ fn print_or_write<'w, F: Folder, W: Write>(
     ensures placed { Placed Printed (asked_of command.entry) (asked_of command.entry).choices.output (F.known files.old)
         (F.listed files.old) (F.known files.new) (W.contents out.old) (W.contents out.new) (exit_status result) }
     ensures requests { WhereKnown (F.known files.old) (F.listed files.old) (λ all folders. Follows
-        (command_steps all folders (asked_of command.entry).paths (asked_of command.entry).choices.ending)
+        (command_steps all folders (asked_of command.entry).choices.options.decimals (asked_of command.entry).paths
+        (asked_of command.entry).choices.ending)
         (F.requests files.old) (F.requests files.new) result) }
 {
     match command.choices.output {
@@ -215,7 +216,8 @@ fn execute_or_write<'w, F: Folder, K: Sink>(
     ensures placed { Placed (λ done. done) (asked_of command.entry) (asked_of command.entry).choices.output (F.known files.old)
         (F.listed files.old) (F.known files.new) (K.sunk sink.old) (K.sunk sink.new) (exit_status result) }
     ensures requests { WhereKnown (F.known files.old) (F.listed files.old) (λ all folders. Follows
-        (command_steps all folders (asked_of command.entry).paths (asked_of command.entry).choices.ending)
+        (command_steps all folders (asked_of command.entry).choices.options.decimals (asked_of command.entry).paths
+        (asked_of command.entry).choices.ending)
         (F.requests files.old) (F.requests files.new) result) }
     ensures destination { Grows (K.sunk sink.old) (K.sunk sink.new) }
     ensures borrows { (K.sunk sink.new).lent ≡ (K.sunk sink.old).lent }
@@ -238,7 +240,8 @@ pub(crate) fn print<'w, F: Folder, W: Write>(
         (F.known files.old) (F.listed files.old)) (W.contents out.old) (W.contents out.new) (exit_status result) }
     ensures same { F.known files.new ≡ F.known files.old }
     ensures requests { WhereKnown (F.known files.old) (F.listed files.old) (λ all folders. Follows
-        (command_steps all folders (asked_of command.entry).paths (asked_of command.entry).choices.ending)
+        (command_steps all folders (asked_of command.entry).choices.options.decimals (asked_of command.entry).paths
+        (asked_of command.entry).choices.ending)
         (F.requests files.old) (F.requests files.new) result) }
 {
     let mut sink = WriterSink::new(out);
@@ -291,7 +294,8 @@ fn execute<'w, F: Folder, K: Sink>(
         (K.sunk sink.old) (K.sunk sink.new) (exit_status result) }
     ensures same { F.known files.new ≡ F.known files.old }
     ensures requests { WhereKnown (F.known files.old) (F.listed files.old) (λ all folders. Follows
-        (command_steps all folders (asked_of command.entry).paths (asked_of command.entry).choices.ending)
+        (command_steps all folders (asked_of command.entry).choices.options.decimals (asked_of command.entry).paths
+        (asked_of command.entry).choices.ending)
         (F.requests files.old) (F.requests files.new) result) }
     ensures destination { Grows (K.sunk sink.old) (K.sunk sink.new) }
     ensures borrows { (K.sunk sink.new).lent ≡ (K.sunk sink.old).lent }
@@ -304,7 +308,7 @@ fn execute<'w, F: Folder, K: Sink>(
     } = choices;
     let template = text_of(alloc, files, paths.template)?;
     let json = text_of(alloc, files, paths.globals)?;
-    let globals = globals_of(alloc, json.as_str(), paths.globals)?;
+    let globals = globals_of(alloc, options.decimals, json.as_str(), paths.globals)?;
     let json = keep_text(alloc, options, json);
     let partials = partials_of(alloc, files, ending, paths.folder)?;
     let kept = keep_partials(options, &partials);

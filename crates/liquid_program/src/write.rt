@@ -97,7 +97,8 @@ pub(crate) fn write_page<'w, F: Folder>(
     ensures writes { WritesAsked (asked_of command.entry) place.now (F.known files.old) (F.listed files.old)
         (F.known files.new) (exit_status result) }
     ensures requests { WhereKnown (F.known files.old) (F.listed files.old) (λ all folders. Follows
-        (command_steps all folders (asked_of command.entry).paths (asked_of command.entry).choices.ending)
+        (command_steps all folders (asked_of command.entry).choices.options.decimals (asked_of command.entry).paths
+        (asked_of command.entry).choices.ending)
         (F.requests files.old) (F.requests files.new) result) }
 {
     let mut page = Vec::new(alloc);

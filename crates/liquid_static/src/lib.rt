@@ -15,7 +15,7 @@ use liquid_c::rendering::render;
 use std::alloc::Global;
 
 /// The number of the header's form.
-const VERSION: u32 = 1;
+const VERSION: u32 = 2;
 
 /// Renders the page into `out`, and writes how it ended to `outcome` and the text of an error to `message`.
 ///
@@ -56,7 +56,7 @@ pub extern "C" fn liquid_render_each(
 /// Returns the number of the header's form, which a caller compares with its `LIQUID_VERSION`.
 #[unsafe(no_mangle)]
 pub extern "C" fn liquid_version() -> u32
-    ensures { result ≡ 1 }
+    ensures { result ≡ 2 }
 {
     VERSION
 }

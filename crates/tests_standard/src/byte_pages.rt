@@ -129,6 +129,7 @@ static ROWS: [Row<'static>; 13] = [
 /// Returns how a row's page is rendered.
 fn options_of(is_lenient: bool) -> PageOptions {
     PageOptions {
+        decimals: false,
         frame: if is_lenient {
             PageFrame::Sandboxed
         } else {

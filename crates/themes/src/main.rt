@@ -31,6 +31,7 @@ fn standard(alloc: Global) -> Result<Rc<StdLanguage>, Fault> {
 fn render(alloc: Global, language: &Rc<StdLanguage>, theme: &Theme) -> Result<Rendered, Fault> {
     let partials = partials_of(alloc, theme)?;
     let options = PageOptions {
+        decimals: false,
         frame: PageFrame::Open,
         lenient: true,
         max_turns: None,

@@ -1,4 +1,4 @@
--- The options of a page as C gives them: a number of three bits, and two limits.
+-- The options of a page as C gives them: a number of four bits, and two limits.
 use Rattle.std.specs.Prelude.{ℕ, Bool, true, false, Option, None, Some, not, nat_eq, bit_and, if◌then◌else◌}
 use Rattle.liquid_pages.specs.declared.options.PageFrame.{PageFrame}
 use Rattle.liquid_pages.specs.declared.options.PageFrame.TheVariants.{Open, Sandboxed, Isolated}
@@ -22,11 +22,12 @@ page_frame true true = Isolated
 abbrev pub has_standard : ℕ → Bool
 has_standard options = has_bit options 4
 
--- bit 0: sandboxed; bit 1: lenient
+-- bit 0: sandboxed; bit 1: lenient; bit 3: with decimals
 abbrev pub page_options : Page → PageOptions
 page_options asked =
     record {
       frame = page_frame (has_bit asked.options 1) (has_standard asked.options);
+      decimals = has_bit asked.options 8;
       lenient = has_bit asked.options 2;
       max_turns = limit_of asked.max_turns;
       max_bytes = limit_of asked.max_bytes;

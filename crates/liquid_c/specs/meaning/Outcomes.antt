@@ -1,5 +1,5 @@
 -- What a call leaves with its caller: bytes in the caller's memory, and a record that says how the page ended.
-use Rattle.std.specs.Prelude.{◌≡◌, ℕ, ◌<◌, ◌≤◌, min, ◌⊎◌, List, ◌++◌, length, take, drop, nat_le, Option, None, Some, map, if◌then◌else◌, ⊤}
+use Rattle.std.specs.Prelude.{◌≡◌, ℕ, ◌<◌, ◌≤◌, min, ◌⊎◌, List, ◌++◌, length, take, drop, nat_le, Option, None, Some, map, if◌then◌else◌}
 use Rattle.liquid_error.specs.declared.place.Place.{Place}
 use Rattle.liquid_pages.specs.declared.fault.PageText.{PageText}
 use Rattle.liquid_pages.specs.declared.fault.PageText.TheVariants.{Template, Globals, PartialName, PartialText}
@@ -23,6 +23,15 @@ abbrev pub IsPlaced : Option Place → Outcome → Type 0
 IsPlaced None o = (o.line ≡ 0) × (o.column ≡ 0)
 IsPlaced (Some place) o = (o.line ≡ place.line) × (o.column ≡ place.column)
 
+-- an outcome of this kind, and nothing else in it
+abbrev pub outcome_alone : ℕ → Outcome
+outcome_alone kind =
+    record { kind = kind; which = 0; partial = 0; line = 0; column = 0; needed = 0; written = 0; message_len = 0 }
+
+-- no text of the page is named
+abbrev pub IsUnnamed : Outcome → Type 0
+IsUnnamed o = (o.which ≡ 0) × (o.partial ≡ 0)
+
 -- which text of the page: the template, the globals, or the name or the text of the partial of this number
 abbrev pub IsWhich : PageText → Outcome → Type 0
 IsWhich Template o = (o.which ≡ 0) × (o.partial ≡ 0)
@@ -32,16 +41,21 @@ IsWhich (PartialText n) o = (o.which ≡ 3) × (o.partial ≡ n)
 
 -- where a fault is; the place of bad JSON is left open
 abbrev pub IsWhere : Fault → Outcome → Type 0
-IsWhere (unparsed refusal) o = IsPlaced refusal.place o
-IsWhere (refused refusal) o = IsPlaced refusal.place o
-IsWhere bad_json o = ⊤
-IsWhere (no_globals refusal) o = IsPlaced refusal.place o
+IsWhere (unparsed refusal) o = IsPlaced refusal.place o × IsUnnamed o
+IsWhere (refused refusal) o = IsPlaced refusal.place o × IsUnnamed o
+IsWhere bad_json o = IsUnnamed o
+IsWhere (no_globals refusal) o = IsPlaced refusal.place o × IsUnnamed o
 IsWhere (no_text which) o = IsPlaced None o × IsWhich which o
 
 -- how a page ended that was rendered into so much room: whole, or too long for it (7); or its fault
 abbrev pub Reports : Option Fault → ℕ → Outcome → Type 0
-Reports None room o = (o.kind ≡ (if nat_le o.needed room then 0 else 7)) × IsPlaced None o
+Reports None room o =
+    (o.kind ≡ (if nat_le o.needed room then 0 else 7)) × (IsPlaced None o × (IsUnnamed o × (o.message_len ≡ 0)))
 Reports (Some fault) room o = (o.kind ≡ kind_of fault) × IsWhere fault o
+
+-- memory ran out (6), which has no place
+abbrev pub OutOfMemory : Outcome → Type 0
+OutOfMemory o = (o.kind ≡ 6) × (IsPlaced None o × IsUnnamed o)
 
 -- memory that held these bytes has the first of what was rendered, as many as it has room for, and then what it held
 pub record Leaves (page : Page) (old new : List ℕ) (o : Outcome) : Type 0 where
@@ -49,20 +63,20 @@ pub record Leaves (page : Page) (old new : List ℕ) (o : Outcome) : Type 0 wher
   pub needed : o.needed ≡ length rendered
   pub written : o.written ≡ min (length rendered) (length old)
   pub bytes : new ≡ take o.written rendered ++ drop o.written old
-  -- what was rendered is the page's output, and the outcome says how it ended; out of memory (6) it is a beginning of it
-  pub ends : ((o.kind ≡ 6) × Begins rendered page) ⊎ ((rendered ≡ page.output) × Reports page.fault (length old) o)
+  -- what was rendered is the page's output, and the outcome says how it ended; out of memory it is a beginning of it
+  pub ends : (OutOfMemory o × Begins rendered page) ⊎ ((rendered ≡ page.output) × Reports page.fault (length old) o)
 
 -- options that there are none of are refused (8), and nothing is written
 abbrev pub Unasked : List ℕ → List ℕ → Outcome → Type 0
-Unasked old new o = (o.kind ≡ 8) × ((o.needed ≡ 0) × ((o.written ≡ 0) × (new ≡ old)))
+Unasked old new o = (o ≡ outcome_alone 8) × (new ≡ old)
 
 -- what a call leaves of the page that it was asked for, over these globals
 abbrev pub LeavesOver : Asked → List ℕ → List ℕ → List ℕ → Outcome → Type 0
 LeavesOver asked globals old new o =
-    (asked.options < 8 → (page : Page)
+    (asked.options < 16 → (page : Page)
     → ComesToIn (has_standard asked.options) (page_options asked) asked.text.now globals (map bytes_of_partial asked.partials.now) page
     → Leaves page old new o)
-    × (8 ≤ asked.options → Unasked old new o)
+    × (16 ≤ asked.options → Unasked old new o)
 
 -- the same over the page's own globals
 abbrev pub LeavesAsked : Asked → List ℕ → List ℕ → Outcome → Type 0

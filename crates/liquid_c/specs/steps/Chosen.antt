@@ -16,6 +16,7 @@ use Rattle.liquid_c.specs.declared.languages.Chosen.{Chosen}
 use Rattle.liquid_c.specs.declared.languages.Chosen.TheVariants as chosen
 use Rattle.liquid_c.specs.meaning.Languages.{filter_made, plain_language, standard_language}
 use Rattle.liquid_c.specs.meaning.Options.{has_standard}
+use Rattle.liquid_c.specs.meaning.Outcomes.{outcome_alone}
 
 abbrev pub PlainLanguage : Type 0
 PlainLanguage = Rc (Language (FilterPlugin StdKind) Tags Blocks) Global
@@ -24,12 +25,12 @@ abbrev pub StandardLanguage : Type 0
 StandardLanguage = Rc (Language (FilterPlugin StdKind) StdTags StdBlocks) Global
 
 abbrev pub IsChosen : ℕ → Chosen → Type 0
-IsChosen options chosen.NoOptions = 8 ≤ options
-IsChosen options chosen.NoMemory = options < 8
-IsChosen options (chosen.Plain l) = (options < 8) × ((has_standard options ≡ false) × (meaning_of filter_made l.value ≡ plain_language))
+IsChosen options chosen.NoOptions = 16 ≤ options
+IsChosen options chosen.NoMemory = options < 16
+IsChosen options (chosen.Plain l) = (options < 16) × ((has_standard options ≡ false) × (meaning_of filter_made l.value ≡ plain_language))
 IsChosen options (chosen.Standard l) =
-    (options < 8) × ((has_standard options ≡ true) × (standard_meaning filter_made l.value ≡ standard_language))
+    (options < 16) × ((has_standard options ≡ true) × (standard_meaning filter_made l.value ≡ standard_language))
 
--- a page is refused for a reason of this kind, and nothing is written
+-- a page is refused with an outcome of this kind, and nothing is written
 abbrev pub IsRefused : ℕ → List ℕ → List ℕ → List ℕ → Outcome → Type 0
-IsRefused kind globals old new o = (o.kind ≡ kind) × ((o.needed ≡ 0) × ((o.written ≡ 0) × (new ≡ old)))
+IsRefused kind globals old new o = (o ≡ outcome_alone kind) × (new ≡ old)

@@ -1,7 +1,7 @@
 -- What a page shows, by the bytes of its texts. They are read in this order: the template, the globals, each partial's
 -- name and then its text. Each of them must be UTF-8, and the globals must be an object of JSON. Then the template is
 -- parsed, and rendered.
-use Rattle.std.specs.Prelude.{◌≡◌, ℕ, suc, List, [], ◌∷◌, ◌++◌, Option, None, Some, Result, Ok, Err, MatchOption, option_map}
+use Rattle.std.specs.Prelude.{◌≡◌, ℕ, suc, Bool, List, [], ◌∷◌, ◌++◌, Option, None, Some, Result, Ok, Err, MatchOption, option_map}
 use Rattle.std.specs.FinMap.{empty, insert}
 use Rattle.liquid_error.specs.declared.error.Error.{Error}
 use Rattle.liquid_runtime.specs.meaning.Maps.{Names}
@@ -35,17 +35,17 @@ partials_read n (p ∷ ps) texts =
     and_then (text_read (PartialName n) p.0) (λ name. and_then (text_read (PartialText n) p.1)
     (λ text. partials_read (suc n) ps (insert texts name text)))
 
--- the names of the globals, from bytes that are a text of JSON
-abbrev pub names_read : List ℕ → Result Names Fault
-names_read bytes = and_then (text_read Globals bytes) globals_read
+-- the names of the globals, from bytes that are a text of JSON, with decimals or without
+abbrev pub names_read : Bool → List ℕ → Result Names Fault
+names_read decimals bytes = and_then (text_read Globals bytes) (globals_read decimals)
 
 -- the texts of a page: the template, the names of its globals and its partials
 abbrev pub partials_over : List ℕ → Names → List NameAndText → Result (List ℕ × (Names × Texts)) Fault
 partials_over text names partials = and_then (partials_read 0 partials empty) (λ texts. Ok (text, (names, texts)))
 
-abbrev pub page_read : List ℕ → List ℕ → List NameAndText → Result (List ℕ × (Names × Texts)) Fault
-page_read text globals partials =
-    and_then (text_read Template text) (λ t. and_then (names_read globals) (λ names. partials_over t names partials))
+abbrev pub page_read : Bool → List ℕ → List ℕ → List NameAndText → Result (List ℕ × (Names × Texts)) Fault
+page_read decimals text globals partials =
+    and_then (text_read Template text) (λ t. and_then (names_read decimals globals) (λ names. partials_over t names partials))
 
 -- the result of a page: all that it writes, and the fault that ends it, if there is one
 pub record Page : Type 0 where
@@ -85,7 +85,7 @@ module _ {Reg F T P L B Q : Type 0} (s : Settings Reg F T P B Q) (l : Lang F T L
 
   -- these bytes are rendered as this page
   abbrev pub ComesTo : List ℕ → List ℕ → List NameAndText → Page → Type 0
-  ComesTo text globals partials page = ReadComesTo (page_read text globals partials) page
+  ComesTo text globals partials page = ReadComesTo (page_read options.decimals text globals partials) page
 
 -- how a page ends when its rendering ends in this way
 abbrev pub ended : Result (Unit {0}) Error → Result (Unit {0}) PageFault

@@ -52,7 +52,15 @@ lenient_word = codes "--lenient"
 
 -- no option
 abbrev pub no_options : Options
-no_options = record { standard = false; sandboxed = false; lenient = false; explain = false; max_turns = None; max_bytes = None }
+no_options = record {
+  standard = false;
+  sandboxed = false;
+  lenient = false;
+  decimals = false;
+  explain = false;
+  max_turns = None;
+  max_bytes = None;
+}
 
 -- the options with the one that a word is; none if it is not an option, or is one that is already set
 abbrev pub with_option : List ℕ → Options → Option Options
@@ -121,10 +129,11 @@ abbrev pub number : List ℕ → Option ℕ
 number [] = None
 number (digit ∷ digits) = number_after 0 (digit ∷ digits)
 
--- the options of the long form that have no word after them: those of the short one and `--explain`
+-- the options of the long form that have no word after them: those of the short one, `--decimals` and `--explain`
 abbrev pub with_long_option : List ℕ → Options → Option Options
 with_long_option word o =
     if bytes_eq word (codes "--explain") && not o.explain then Some (record o { explain = true })
+    else if bytes_eq word (codes "--decimals") && not o.decimals then Some (record o { decimals = true })
     else with_option word o
 
 -- the options that have a word after them

@@ -31,8 +31,7 @@ use Rattle.liquid_error.specs.meaning.Refusal.{Refusal}
 use Rattle.liquid_value.specs.meaning.Tree.{Members}
 use Rattle.liquid_runtime.specs.meaning.Maps.{NameMap, Names}
 use Rattle.liquid_partials.specs.meaning.Sources.{Texts}
-use Rattle.liquid_json.specs.meaning.Given.{object_read}
-use Rattle.liquid_pages.specs.meaning.Globals.{global_names}
+use Rattle.liquid_pages.specs.meaning.Globals.{global_names, json_object}
 
 -- a file that exists and is UTF-8 is its text
 abbrev pub WithText : Option (Option (List ℕ)) → Type 0 → (List ℕ → Type 0) → Type 0
@@ -90,20 +89,20 @@ WithPartials known listed ending [] stop next = next None
 WithPartials known listed ending (folder ∷ words) stop next =
     WithFolder known folder ending (listed (is_some ending) folder) stop (λ texts. next (Some texts))
 
--- the template, then its globals, then its partials
-abbrev pub Gathers : List (List ℕ) → Option (List ℕ) → (List ℕ → Option (Option (List ℕ)))
+-- the template, then its globals, with decimals or without, and then its partials
+abbrev pub Gathers : Bool → List (List ℕ) → Option (List ℕ) → (List ℕ → Option (Option (List ℕ)))
     → (Bool → List ℕ → Option (Option (List (List ℕ)))) → Type 0 → (List ℕ → Names → Option Texts → Type 0) → Type 0
-Gathers (template ∷ globals ∷ rest) ending known listed stop next =
+Gathers decimals (template ∷ globals ∷ rest) ending known listed stop next =
     WithText (known template) stop (λ text.
     WithText (known globals) stop (λ json.
-    WithGlobals (object_read json) stop (λ names.
+    WithGlobals (json_object decimals json) stop (λ names.
     WithPartials known listed ending rest stop (λ partials. next text names partials))))
-Gathers other ending known listed stop next = ⊤
+Gathers decimals other ending known listed stop next = ⊤
 
 -- the globals of several pages, then their partials
-abbrev pub GathersGlobals : List ℕ → List (List ℕ) → Option (List ℕ) → (List ℕ → Option (Option (List ℕ)))
+abbrev pub GathersGlobals : Bool → List ℕ → List (List ℕ) → Option (List ℕ) → (List ℕ → Option (Option (List ℕ)))
     → (Bool → List ℕ → Option (Option (List (List ℕ)))) → Type 0 → (Names → Option Texts → Type 0) → Type 0
-GathersGlobals globals rest ending known listed stop next =
+GathersGlobals decimals globals rest ending known listed stop next =
     WithText (known globals) stop (λ json.
-    WithGlobals (object_read json) stop (λ names.
+    WithGlobals (json_object decimals json) stop (λ names.
     WithPartials known listed ending rest stop (λ partials. next names partials)))

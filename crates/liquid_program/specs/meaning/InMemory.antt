@@ -100,7 +100,7 @@ ShowsText options text globals partials output status = ShowsIn options.standard
 abbrev pub ShowsCommand : Options → Option (List ℕ) → List (List ℕ) → (List ℕ → Option (List ℕ)) → (Bool → List ℕ → Option (List (List ℕ)))
     → List ℕ → ℕ → Type 0
 ShowsCommand options ending paths files folders output status =
-    Gathers paths ending (known_in files) (listed_in folders) (ShowsNothing output status)
+    Gathers options.decimals paths ending (known_in files) (listed_in folders) (ShowsNothing output status)
     (λ text globals partials. ShowsText options text globals partials output status)
 
 -- a page that goes to the output leaves all files as they are; one that goes to a file shows nothing

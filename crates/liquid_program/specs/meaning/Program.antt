@@ -25,6 +25,7 @@ page_frame true true = Isolated
 abbrev pub page_options : Options → PageOptions
 page_options options = record {
   frame = page_frame options.standard options.sandboxed;
+  decimals = options.decimals;
   lenient = options.lenient;
   max_turns = options.max_turns;
   max_bytes = options.max_bytes;
@@ -62,7 +63,7 @@ Fails before after status = (after ≡ before) × ((status ≡ 3) ⊎ (status �
 abbrev pub Executes : Options → Option (List ℕ) → List (List ℕ) → (List ℕ → Option (Option (List ℕ)))
     → (Bool → List ℕ → Option (Option (List (List ℕ)))) → Sunk → Sunk → ℕ → Type 0
 Executes options ending paths known listed before after status =
-    Gathers paths ending known listed (Fails before after status)
+    Gathers options.decimals paths ending known listed (Fails before after status)
     (λ text globals partials. Finishes options text globals partials before after status)
 
 -- the template at a path is read and rendered, over globals and partials that were read before

@@ -25,7 +25,7 @@ use Rattle.std.specs.Str.{is_utf8}
 use Rattle.liquid_error.specs.meaning.Refusal.{Refusal}
 use Rattle.liquid_error.specs.meaning.Told.{told}
 use Rattle.liquid_value.specs.meaning.Tree.{Members}
-use Rattle.liquid_json.specs.meaning.Given.{object_read}
+use Rattle.liquid_pages.specs.meaning.Globals.{json_object}
 use Rattle.liquid_program.specs.declared.fault.Fault.{Fault}
 use Rattle.liquid_program.specs.declared.fault.Fault.TheVariants.{Refused, Unreadable, UnreadableInFolder, BadJson, NoGlobals}
 use Rattle.liquid_program.specs.meaning.Command.{command_of, option_words}
@@ -65,16 +65,17 @@ object_trouble path None = Some (bad_json path)
 object_trouble path (Some (Err refusal)) = Some (no_globals refusal)
 object_trouble path (Some (Ok _)) = None
 
--- globals should be both
-abbrev pub globals_trouble : List ℕ → Option (List ℕ) → Option Trouble
-globals_trouble path file = option_map_or Some (text_trouble path file) (object_trouble path (object_read (unwrap_or file [])))
+-- globals should be both, with decimals or without
+abbrev pub globals_trouble : Bool → List ℕ → Option (List ℕ) → Option Trouble
+globals_trouble decimals path file =
+    option_map_or Some (text_trouble path file) (object_trouble path (json_object decimals (unwrap_or file [])))
 
 module _ (files : List ℕ → Option (List ℕ)) where
   abbrev pub text_at : List ℕ → Step
   text_at path = record { request = reading path; trouble = text_trouble path (files path) }
 
-  abbrev pub globals_at : List ℕ → Step
-  globals_at path = record { request = reading path; trouble = globals_trouble path (files path) }
+  abbrev pub globals_at : Bool → List ℕ → Step
+  globals_at decimals path = record { request = reading path; trouble = globals_trouble decimals path (files path) }
 
   -- the files of partials, each of which should be text
   abbrev pub file_steps : List ℕ → List ℕ → List (List ℕ) → List Step
@@ -96,19 +97,21 @@ module _ (files : List ℕ → Option (List ℕ)) (folders : Bool → List ℕ �
   partials_steps (folder ∷ words) ending = folder_steps files folder ending (folders (is_some ending) folder)
 
   -- the template, its globals, and the partials
-  abbrev pub command_steps : List (List ℕ) → Option (List ℕ) → List Step
-  command_steps (template ∷ globals ∷ words) ending = text_at files template ∷ globals_at files globals ∷ partials_steps words ending
-  command_steps other ending = []
+  abbrev pub command_steps : Bool → List (List ℕ) → Option (List ℕ) → List Step
+  command_steps decimals (template ∷ globals ∷ words) ending =
+      text_at files template ∷ globals_at files decimals globals ∷ partials_steps words ending
+  command_steps decimals other ending = []
 
   -- the globals, the partials, and then each template
   abbrev pub pages_steps : AskedPages → List Step
   pages_steps pages =
-      globals_at files pages.globals ∷ (partials_steps (option_words pages.partials) pages.ending ++ map template_step pages.templates)
+      globals_at files pages.options.decimals pages.globals
+      ∷ (partials_steps (option_words pages.partials) pages.ending ++ map template_step pages.templates)
 
   -- other words request nothing
   abbrev pub steps_of : List (List ℕ) → List Step
   steps_of words =
-      option_map_or (λ command. command_steps command.paths command.choices.ending) (command_of words)
+      option_map_or (λ command. command_steps command.choices.options.decimals command.paths command.choices.ending) (command_of words)
       (option_map_or pages_steps (pages_of words) [])
 
 -- the trouble that a fault reports

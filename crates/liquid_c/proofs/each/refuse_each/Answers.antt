@@ -10,8 +10,7 @@ pub loop-place-preserved : goal.loop-place-preserved
 loop-place-preserved c = record {
   turns =
       λ out. refused_turn (λ g. g.now) c.args.kind out c.args.globals.now c.loop-place.outcomes c.loop-place.place _ (search rules)
-      (search rules) c.requires (c.loop-place.invariant.turns out) c.refused.ensures.kind c.refused.ensures.needed
-      c.refused.ensures.written;
+      (search rules) c.requires (c.loop-place.invariant.turns out) c.refused.ensures;
   later = later_turn c.loop-place.outcomes c.args.outcomes.now c.loop-place.place _ c.loop-place.invariant.later;
   size = search rules;
 }

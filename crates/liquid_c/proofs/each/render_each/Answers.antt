@@ -12,7 +12,7 @@ pub returns-in-NoMemory : goal.returns-in-NoMemory
 returns-in-NoMemory c =
     all_leave (λ globals old new o refused. memory_asked c.args.page.now globals old new o c.choose_language.result
     c.choose_language.ensures c.in-NoMemory.is
-    (λ page. nothing_left page old new o refused.0 refused.1.0 refused.1.1.0 refused.1.1.1))
+    (λ page. nothing_left page old new o refused.0 refused.1))
     (c.refuse_each-in-NoMemory.ensures c.args.out.now)
 
 pub returns-in-Plain : goal.returns-in-Plain

@@ -5,7 +5,7 @@ use Rattle.liquid_c.proofs.rendering.finish.Goals as goal
 pub returns-in-Ok-clause-leaves : goal.returns-in-Ok-clause-leaves
 returns-in-Ok-clause-leaves c =
     λ page shows. whole_left page c.as_bytes-bytes.result.now _ _ _ c.args.rendered.now.end c.as_bytes-bytes.ensures shows _ _ c.in-Ok.is
-    (search rules) (search rules) (search rules) (search rules) (refl, refl)
+    (search rules) (search rules) (search rules) (search rules) (refl, refl) (refl, refl) refl
 
 pub returns-in-Err-clause-leaves : goal.returns-in-Err-clause-leaves
 returns-in-Err-clause-leaves c =

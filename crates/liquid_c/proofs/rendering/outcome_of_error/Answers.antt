@@ -3,11 +3,13 @@ use Rattle.liquid_c.proofs.LeavesLemmas.{memory_refuses, placed_refuses}
 use Rattle.liquid_c.proofs.rendering.outcome_of_error.Goals as goal
 
 pub returns-then-is_memory : goal.returns-then-is_memory
-returns-then-is_memory c = memory_refuses c.args.kind _ _ (search rules) refl
+returns-then-is_memory c = memory_refuses c.args.kind _ _ (search rules) (refl, ((refl, refl), (refl, refl)))
 
 pub returns-in-Some : goal.returns-in-Some
 returns-in-Some c =
     placed_refuses c.args.kind _ _ (Some c.in-Some.field-0) (search rules) (sym c.in-Some.is ∙ c.place.ensures) refl (refl, refl)
+    (refl, refl)
 
 pub returns-in-None : goal.returns-in-None
 returns-in-None c = placed_refuses c.args.kind _ _ None (search rules) (sym c.in-None.is ∙ c.place.ensures) refl (refl, refl)
+    (refl, refl)

@@ -6,13 +6,12 @@ use Rattle.liquid_c.proofs.rendering.render.Goals as goal
 pub returns-in-NoOptions : goal.returns-in-NoOptions
 returns-in-NoOptions c =
     none_asked c.args.page.now c.args.page.now.globals.now _ _ _ c.choose_language.result c.choose_language.ensures c.in-NoOptions.is
-    (c.refused.ensures.kind, (c.refused.ensures.needed, (c.refused.ensures.written, refl)))
+    (c.refused.ensures, refl)
 
 pub returns-in-NoMemory : goal.returns-in-NoMemory
 returns-in-NoMemory c =
     memory_asked c.args.page.now c.args.page.now.globals.now _ _ _ c.choose_language.result c.choose_language.ensures c.in-NoMemory.is
-    (λ page. nothing_left page _ _ _ c.refused-in-NoMemory.ensures.kind c.refused-in-NoMemory.ensures.needed
-    c.refused-in-NoMemory.ensures.written refl)
+    (λ page. nothing_left page _ _ _ c.refused-in-NoMemory.ensures refl)
 
 pub returns-in-Plain : goal.returns-in-Plain
 returns-in-Plain c =

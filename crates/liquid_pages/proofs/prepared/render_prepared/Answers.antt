@@ -14,7 +14,7 @@ returns-in-Ok-clause-prepared g c = λ l text partials prepared.
 pub returns-in-Err-clause-shows : goal.returns-in-Err-clause-shows
 returns-in-Err-clause-shows g c = λ l text partials prepared shown comes.
     let p = subst (IsPrepared _ _ l text partials) c.in-Some.is prepared in
-    stops_shown _ l c.args.options shown (names_read c.args.globals.now)
+    stops_shown _ l c.args.options shown (names_read c.args.options.decimals c.args.globals.now)
     (λ names. partials_over text names partials) c.in-Err.fault _ _ c.nothing.ensures.output c.nothing.ensures.end c.in-Err.ensures
     (step_on _ l c.args.options shown (text_read Template text) text
-    (λ t. and_then (names_read c.args.globals.now) (λ names. partials_over t names partials)) p.0 comes)
+    (λ t. and_then (names_read c.args.options.decimals c.args.globals.now) (λ names. partials_over t names partials)) p.0 comes)

@@ -1,7 +1,7 @@
 use Rattle.std.proofs.Common.{◌≡◌, ap, sym, Err, Ok, Option, option_map, map, rules, string_bytes, subst, ◌∙◌}
 use Rattle.std.specs.Prelude.{⊤}
 use Rattle.liquid_partials.specs.meaning.Sources.{Texts}
-use Rattle.liquid_json.specs.meaning.Given.{object_read}
+use Rattle.liquid_pages.specs.meaning.Globals.{json_object}
 use Rattle.liquid_program.specs.meaning.Command.{option_words}
 use Rattle.liquid_program.specs.meaning.Gathered.{WithGlobals, WithPartials}
 use Rattle.liquid_program.specs.meaning.Written.{WritesEach}
@@ -69,7 +69,7 @@ returns-clause-writes g c =
     (subst (λ (k : Files). WithPartials k (g.F.Folder.listed c.text_of.new.files) ending words (Stops (Ok source))
     (λ partials. Brings (λ (s : Option Texts). s) partials (Ok source))) c.text_of.ensures.same
     c.in_ok-partials.ensures.partials))
-    (subst (λ (k : Files). WithGlobals (object_read (string_bytes c.in_ok-json.json)) ⊤
+    (subst (λ (k : Files). WithGlobals (json_object c.args.pages.options.decimals (string_bytes c.in_ok-json.json)) ⊤
     (λ names. WritesEach (asked_pages c.args.pages) names source
     (map string_bytes c.args.pages.templates.now) k left 0 c.write_each.result))
     (c.partials_of.ensures.same ∙ c.text_of.ensures.same) (rw c.as_str-2.ensures.value at c.write_each.ensures.writes))
@@ -84,7 +84,7 @@ returns-in_err-json-clause-requests g c = λ all folders known listed.
     let is : c.from_residual.result ≡ Err fault = search rules in
     subst (λ r. Follows (pages_steps all folders (asked_pages c.args.pages)) before first r) (sym is)
     (pages_stop all folders (asked_pages c.args.pages) before first fault c.text_of.ensures.requests
-    (globals_unread (all globals) globals fault (text_known (all globals) _ globals
+    (globals_unread c.args.pages.options.decimals (all globals) globals fault (text_known (all globals) _ globals
     (Err fault) here c.in_err-json.ensures.text c.in_err-json.ensures.reports)))
 
 pub returns-in_err-globals_of-clause-requests : goal.returns-in_err-globals_of-clause-requests
@@ -97,7 +97,7 @@ returns-in_err-globals_of-clause-requests g c = λ all folders known listed.
     let is : c.from_residual-in_err-globals_of.result ≡ Err fault = search rules in
     subst (λ r. Follows (pages_steps all folders (asked_pages c.args.pages)) before first r) (sym is)
     (pages_stop all folders (asked_pages c.args.pages) before first fault c.text_of.ensures.requests
-    (globals_refused (all globals) _ globals c.in_ok-json.json fault here c.in_ok-json.ensures.text
+    (globals_refused c.args.pages.options.decimals (all globals) _ globals c.in_ok-json.json fault here c.in_ok-json.ensures.text
     (rw c.as_str.ensures.value at c.in_err-globals_of.ensures.reports)))
 
 pub returns-in_err-partials-clause-requests : goal.returns-in_err-partials-clause-requests
@@ -110,7 +110,7 @@ returns-in_err-partials-clause-requests g c = λ all folders known listed.
     let is : c.from_residual-in_err-partials.result ≡ Err fault = search rules in
     let after = g.F.Folder.requests c.partials_of.new.files in
     let fit =
-    globals_known (all globals) _ globals c.in_ok-json.json here c.in_ok-json.ensures.text
+    globals_known c.args.pages.options.decimals (all globals) _ globals c.in_ok-json.json here c.in_ok-json.ensures.text
     ∙ (rw c.as_str.ensures.value at c.in_ok-globals_of.ensures.reports) in
     subst (λ r. Follows (pages_steps all folders (asked_pages c.args.pages)) before after r) (sym is)
     (pages_partials_stop all folders (asked_pages c.args.pages) before first c.text_of.ensures.requests fit after fault
@@ -123,7 +123,7 @@ returns-clause-requests g c = λ all folders known listed.
     let first = g.F.Folder.requests c.text_of.new.files in
     let here = ap (λ (k : Files). k globals) known in
     let fit =
-    globals_known (all globals) _ globals c.in_ok-json.json here c.in_ok-json.ensures.text
+    globals_known c.args.pages.options.decimals (all globals) _ globals c.in_ok-json.json here c.in_ok-json.ensures.text
     ∙ (rw c.as_str.ensures.value at c.in_ok-globals_of.ensures.reports) in
     pages_followed all folders (asked_pages c.args.pages) before first c.text_of.ensures.requests fit
     (g.F.Folder.requests c.partials_of.new.files) (g.F.Folder.requests c.write_each.new.files) c.write_each.result

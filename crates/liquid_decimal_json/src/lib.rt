@@ -1,0 +1,8 @@
+//! JSON as values, with decimals: a number with a fraction is the text of its decimal.
+#![tactic(auto)]
+
+mod convert;
+mod number;
+mod read;
+
+pub use read::object_with_decimals;
