@@ -37,3 +37,34 @@ const NESTED: &str =
 fn globals_nest_to_a_depth(rt: HostRuntime) -> Result<(), Fail> {
     rows_hold(rt.alloc(), NESTED, row_holds)
 }
+
+/// Numbers that are integers or decimals, with `--decimals`.
+const DECIMALS: &str = r#"["render --decimals t g.json", "{{ x }}|{{ y }}", "{\"x\": 1.50, \"y\": -0.05}", 0, "1.50|-0.05", ""]
+["render t g.json --decimals", "{{ x[0] }} {{ x[1].y }}", "{\"x\": [2.5, {\"y\": 0.125}]}", 0, "2.5 0.125", ""]
+["render --decimals t g.json", "{{ x }}", "{\"x\": 1e3}", 0, "1000", ""]
+["render --decimals t g.json", "{{ x }}", "{\"x\": 1.5e2}", 0, "150", ""]
+["render --decimals t g.json", "{{ x }}", "{\"x\": 15E-1}", 0, "1.5", ""]
+["render --decimals t g.json", "{{ x }}", "{\"x\": 1.50e+1}", 0, "15.0", ""]
+["render --decimals t g.json", "{{ x }}", "{\"x\": 2e-3}", 0, "0.002", ""]
+["render --decimals t g.json", "{{ x }}{{ y }}", "{\"x\": -0, \"y\": -0.0}", 0, "00.0", ""]
+["render --decimals t g.json", "{{ x }}", "{\"x\": 0.123456789012345678}", 0, "0.123456789012345678", ""]
+["render --decimals t g.json", "{{ x }}", "{\"x\": 0.1234567890123456789}", 3, "", "liquid: Fractional number\n"]
+["render --decimals t g.json", "{{ x }}", "{\"x\": -9223372036854775808}", 0, "-9223372036854775808", ""]
+["render --decimals t g.json", "{{ x }}", "{\"x\": 9223372036854775808}", 3, "", "liquid: Cannot fit number\n"]
+["render --decimals t g.json", "{{ x }}", "{\"x\": 922337203685477580.8}", 3, "", "liquid: Fractional number\n"]
+["render --decimals t g.json", "{{ x }}", "{\"x\": 1e19}", 3, "", "liquid: Fractional number\n"]
+["render --decimals t g.json", "{{ x }}", "{\"x\": 1e999}", 3, "", "liquid: Fractional number\n"]
+["render --decimals t g.json", "x", "{\"y\": 1e30, \"x\": 9223372036854775808}", 3, "", "liquid: Fractional number\n"]
+["render --decimals t g.json", "{{ x }}", "{\"x\": 1.5, \"x\": 2}", 0, "2", ""]
+["render --decimals t g.json", "{{ x }}", "{\"x\": true, \"y\": null}", 0, "true", ""]
+["render --decimals t g.json", "x", "[1.5]", 3, "", "liquid: Object cannot be an array.\n"]
+["render --decimals t g.json", "x", "1.5", 3, "", "liquid: Object cannot be a scalar.\n"]
+["render --decimals t g.json", "x", "{\"x\": 1.}", 3, "", "liquid: bad JSON in g.json\n"]
+["render --decimals t g.json", "", ["{\"x\": ", ["[", 126], ["]", 126], "}"], 0, "", ""]
+["render --decimals t g.json", "", ["{\"x\": ", ["[", 127], ["]", 127], "}"], 3, "", "liquid: bad JSON in g.json\n"]
+["render --decimals --decimals t g.json", "x", "{}", 2, "", "USAGE"]"#;
+
+#[test]
+fn globals_have_decimals(rt: HostRuntime) -> Result<(), Fail> {
+    rows_hold(rt.alloc(), DECIMALS, row_holds)
+}
