@@ -117,6 +117,10 @@ size_t liquid_render_each(const liquid_page *page,
 /* Returns the LIQUID_VERSION that the library was built for. */
 uint32_t liquid_version(void);
 
+/* Returns 1 if the library was proved before it was built, and 0 if it was built without a proof
+ * (./liquid c --unproved). */
+uint32_t liquid_proved(void);
+
 /* Returns the bytes at a pointer; none for a null pointer. */
 static inline liquid_bytes liquid_bytes_of(const void *at, size_t len) {
     liquid_bytes bytes;

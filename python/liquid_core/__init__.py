@@ -17,7 +17,7 @@ from collections.abc import Iterable, Mapping
 from pathlib import Path
 from typing import Any, Union
 
-__all__ = ["Kind", "LiquidError", "render", "render_each"]
+__all__ = ["Kind", "LiquidError", "proved", "render", "render_each"]
 
 _VERSION = 1
 _SANDBOXED, _LENIENT, _STANDARD = 1, 2, 4
@@ -96,6 +96,10 @@ class _Outcome(ctypes.Structure):
 
 def _load() -> ctypes.CDLL:
     path = os.environ.get("LIQUID_CORE_LIBRARY") or Path(__file__).with_name("libliquid.so")
+    if not os.path.exists(path):
+        raise ImportError(
+            f"{path} is not there. In a clone of liquid_core, './liquid c --unproved' builds it in some minutes, and './liquid c' proves it first"
+        )
     library = ctypes.CDLL(os.fspath(path))
     memory = [ctypes.c_char_p, ctypes.c_size_t, ctypes.c_char_p, ctypes.c_size_t, ctypes.POINTER(_Outcome)]
     library.liquid_render.restype = None
@@ -110,12 +114,18 @@ def _load() -> ctypes.CDLL:
     ]
     library.liquid_version.restype = ctypes.c_uint32
     library.liquid_version.argtypes = []
-    if library.liquid_version() != _VERSION:
+    if library.liquid_version() != _VERSION or not hasattr(library, "liquid_proved"):
         raise ImportError(f"{path} is of another version than this package")
+    library.liquid_proved.restype = ctypes.c_uint32
+    library.liquid_proved.argtypes = []
     return library
 
 
 _library = _load()
+
+proved: bool = _library.liquid_proved() == 1
+"""Whether the library was proved before it was built. One that was built without a proof is the same code, with a check of
+each index, sum and value: if a check failed, which a proof excludes, it would end the process by a signal."""
 
 
 def _bytes(text: Text) -> _Bytes:

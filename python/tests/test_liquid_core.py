@@ -1,9 +1,13 @@
 """The package, as its README says: python3 -m unittest discover -s python/tests"""
+import importlib.metadata
+import os
 import pickle
+import subprocess
+import sys
 import threading
 import unittest
 
-from liquid_core import Kind, LiquidError, render, render_each
+from liquid_core import Kind, LiquidError, proved, render, render_each
 
 
 class Pages(unittest.TestCase):
@@ -144,6 +148,23 @@ class Threads(unittest.TestCase):
         finally:
             threading.stack_size(before)
         self.assertEqual(pages, ["." * 30 + "end"])
+
+
+class Package(unittest.TestCase):
+    def test_the_version_says_whether_the_library_is_proved(self):
+        self.assertIs(type(proved), bool)
+        try:
+            version = importlib.metadata.version("liquid_core")
+        except importlib.metadata.PackageNotFoundError:
+            self.skipTest("the package is not installed")
+        self.assertEqual(version.endswith("+unproved"), not proved)
+
+    def test_without_a_library_the_import_says_how_to_build_it(self):
+        environment = {**os.environ, "LIQUID_CORE_LIBRARY": "/nowhere/libliquid.so"}
+        ran = subprocess.run([sys.executable, "-c", "import liquid_core"], env=environment, capture_output=True, text=True)
+        self.assertEqual(ran.returncode, 1)
+        self.assertIn("ImportError: /nowhere/libliquid.so is not there", ran.stderr)
+        self.assertIn("./liquid c --unproved", ran.stderr)
 
 
 if __name__ == "__main__":
