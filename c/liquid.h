@@ -117,8 +117,28 @@ size_t liquid_render_each(const liquid_page *page,
                           uint8_t *message, size_t message_len,
                           liquid_outcome *outcomes, size_t outcome_count);
 
+/* Renders a page as liquid_render does, but the call holds at most max_memory bytes at any moment; 0 means no limit.
+ * Where it would hold more, memory runs out: the page ends as LIQUID_NO_MEMORY. A block counts with 40 bytes more
+ * than its size, for what malloc takes beside it, and with both sizes while it grows. The caller's memory doesn't
+ * count. This count is kept in C, and is not proved: what is proved is how a page ends if an allocation fails. */
+void liquid_render_within(const liquid_page *page, size_t max_memory,
+                          uint8_t *out, size_t out_len,
+                          uint8_t *message, size_t message_len,
+                          liquid_outcome *outcome);
+
+/* Renders the page over each text of globals, as liquid_render_each does. The whole call has one limit. */
+size_t liquid_render_each_within(const liquid_page *page, size_t max_memory,
+                                 const liquid_bytes *globals, size_t globals_count,
+                                 uint8_t *out, size_t out_len,
+                                 uint8_t *message, size_t message_len,
+                                 liquid_outcome *outcomes, size_t outcome_count);
+
 /* Returns the LIQUID_VERSION that the library was built for. */
 uint32_t liquid_version(void);
+
+/* Returns 1 if the library was proved before it was built, and 0 if it was built without a proof
+ * (./liquid c --unproved). */
+uint32_t liquid_proved(void);
 
 /* Returns the bytes at a pointer; none for a null pointer. */
 static inline liquid_bytes liquid_bytes_of(const void *at, size_t len) {

@@ -2,13 +2,16 @@
 
     python3 python/build_wheel.py DIR    writes the wheel into DIR, and prints its path
 
-It is the build backend of pyproject.toml too, so `pip install ./python` works where liquid_core/libliquid.so is.
+It is the build backend of pyproject.toml too. If liquid_core/libliquid.so is not there, `pip install ./python` first builds
+it without a proof, in some minutes; `./liquid c` proves it.
 """
 from __future__ import annotations
 
 import base64
+import ctypes
 import hashlib
 import re
+import subprocess
 import sys
 import zipfile
 from pathlib import Path
@@ -27,12 +30,31 @@ def field(name: str) -> str:
     return found[1]
 
 
+def library() -> Path:
+    """Returns the shared library, which is built if it is not there."""
+    built, script = HERE / "liquid_core" / "libliquid.so", HERE.parent / "c" / "build"
+    if not built.exists():
+        if not script.exists():
+            raise SystemExit(f"{built} is not there, and can be built only in a clone of the repository: ./liquid c --unproved")
+        subprocess.run([script, "unproved"], check=True)
+    if not built.exists():
+        raise SystemExit("the library was not built: it takes a C compiler and the Rattle kit")
+    return built
+
+
+def version() -> str:
+    """Returns the version, which says so if the library is not proved."""
+    proved = ctypes.CDLL(str(library())).liquid_proved()
+    return field("version") if proved else f"{field('version')}+unproved"
+
+
 def metadata() -> str:
+    proof = "" if version() == field("version") else ". This build is not proved"
     return (
         "Metadata-Version: 2.1\n"
         f"Name: {field('name')}\n"
-        f"Version: {field('version')}\n"
-        f"Summary: {field('description')}\n"
+        f"Version: {version()}\n"
+        f"Summary: {field('description')}{proof}\n"
         "License: MIT OR Apache-2.0\n"
         f"Requires-Python: {field('requires-python')}\n"
         "Classifier: Operating System :: POSIX :: Linux\n"
@@ -42,11 +64,8 @@ def metadata() -> str:
 
 
 def files() -> dict[str, bytes]:
-    library = HERE / "liquid_core" / "libliquid.so"
-    if not library.exists():
-        raise SystemExit("liquid_core/libliquid.so is not there: ./liquid c builds it")
     packed = {f"liquid_core/{name}": (HERE / "liquid_core" / name).read_bytes() for name in ("__init__.py", "py.typed", "libliquid.so")}
-    info = f"{field('name')}-{field('version')}.dist-info"
+    info = f"{field('name')}-{version()}.dist-info"
     packed[f"{info}/METADATA"] = metadata().encode()
     packed[f"{info}/WHEEL"] = f"Wheel-Version: 1.0\nGenerator: liquid_core\nRoot-Is-Purelib: false\nTag: {TAG}\n".encode()
     lines = []
@@ -59,7 +78,7 @@ def files() -> dict[str, bytes]:
 
 def build_wheel(wheel_directory: str, config_settings: object = None, metadata_directory: object = None) -> str:
     """Writes the wheel, and returns its name."""
-    name = f"{field('name')}-{field('version')}-{TAG}.whl"
+    name = f"{field('name')}-{version()}-{TAG}.whl"
     with zipfile.ZipFile(Path(wheel_directory) / name, "w", zipfile.ZIP_DEFLATED) as wheel:
         for path, content in files().items():
             entry = zipfile.ZipInfo(path, MOMENT)

@@ -12,17 +12,18 @@ from __future__ import annotations
 import ctypes
 import enum
 import json
+import mmap
 import os
 from collections.abc import Iterable, Mapping
 from pathlib import Path
 from typing import Any, Union
 
-__all__ = ["Kind", "LiquidError", "render", "render_each"]
+__all__ = ["Kind", "LiquidError", "proved", "render", "render_each"]
 
 _VERSION = 1
 _SANDBOXED, _LENIENT, _STANDARD = 1, 2, 4
 _OK, _SHORT = 0, 7
-_LEAST_ROOM = 1 << 16
+_LEAST_ROOM, _LARGE_ROOM = 1 << 16, 1 << 20
 _MESSAGE_ROOM = 1 << 12
 _NO_MEMORY = "liquid: out of memory"
 
@@ -44,7 +45,7 @@ class Kind(enum.IntEnum):
     NO_TEXT = 5
     """A text is not UTF-8."""
     NO_MEMORY = 6
-    """Memory ran out."""
+    """Memory ran out, or the page took more than ``max_memory``."""
     NO_OPTIONS = 8
     """The library has no such options: it is of another version than the package."""
 
@@ -96,26 +97,29 @@ class _Outcome(ctypes.Structure):
 
 def _load() -> ctypes.CDLL:
     path = os.environ.get("LIQUID_CORE_LIBRARY") or Path(__file__).with_name("libliquid.so")
-    library = ctypes.CDLL(os.fspath(path))
-    memory = [ctypes.c_char_p, ctypes.c_size_t, ctypes.c_char_p, ctypes.c_size_t, ctypes.POINTER(_Outcome)]
-    library.liquid_render.restype = None
-    library.liquid_render.argtypes = [ctypes.POINTER(_Page), *memory]
-    library.liquid_render_each.restype = ctypes.c_size_t
-    library.liquid_render_each.argtypes = [
-        ctypes.POINTER(_Page),
-        ctypes.POINTER(_Bytes),
-        ctypes.c_size_t,
-        *memory,
-        ctypes.c_size_t,
-    ]
-    library.liquid_version.restype = ctypes.c_uint32
-    library.liquid_version.argtypes = []
-    if library.liquid_version() != _VERSION:
+    try:
+        library = ctypes.CDLL(os.fspath(path))
+    except OSError as error:
+        how = "In a clone of liquid_core, './liquid c --unproved' builds it in minutes, and './liquid c' proves it first"
+        raise ImportError(f"the library can't be loaded: {error}. {how}") from error
+    if not hasattr(library, "liquid_render_within") or library.liquid_version() != _VERSION:
         raise ImportError(f"{path} is of another version than this package")
+    memory = [ctypes.c_char_p, ctypes.c_size_t, ctypes.c_char_p, ctypes.c_size_t, ctypes.POINTER(_Outcome)]
+    many = [ctypes.POINTER(_Bytes), ctypes.c_size_t, *memory, ctypes.c_size_t]
+    for name, limit in ("", []), ("_within", [ctypes.c_size_t]):
+        one, each = getattr(library, f"liquid_render{name}"), getattr(library, f"liquid_render_each{name}")
+        one.argtypes, one.restype = [ctypes.POINTER(_Page), *limit, *memory], None
+        each.argtypes, each.restype = [ctypes.POINTER(_Page), *limit, *many], ctypes.c_size_t
+    library.liquid_proved.restype = ctypes.c_uint32
+    library.liquid_proved.argtypes = []
     return library
 
 
 _library = _load()
+
+proved: bool = _library.liquid_proved() == 1
+"""Whether the library was proved before it was built. One that was built without a proof is the same code, with a check of
+each index, sum and value: if a check failed, which a proof excludes, it would end the process by a signal."""
 
 
 def _bytes(text: Text) -> _Bytes:
@@ -151,15 +155,24 @@ def _page(
     return _Page(_bytes(template), _bytes(b""), array, len(texts), options, _limit(max_turns), _limit(max_bytes))
 
 
-def _rendered(page: _Page) -> str:
+def _buffer(room: int) -> ctypes.Array[ctypes.c_char]:
+    """Returns so much room. Where it is large, the part that is not written takes no memory."""
+    if room < _LARGE_ROOM:
+        return ctypes.create_string_buffer(room)
+    return (ctypes.c_char * room).from_buffer(mmap.mmap(-1, room))
+
+
+def _rendered(page: _Page, max_memory: int) -> str:
     """Returns what the page is rendered as, or raises its error."""
     outcome = _Outcome()
-    # A page that is longer is rendered again, with room for all of it.
+    # A page that is longer is rendered again, with room for all of it. None is longer than the memory of its call.
     room, message_room = max(_LEAST_ROOM, 4 * (page.text.len + page.globals.len)), _MESSAGE_ROOM
+    if max_memory:
+        room = min(room, max_memory)
     while True:
-        out = ctypes.create_string_buffer(room)
+        out = _buffer(room)
         message = ctypes.create_string_buffer(message_room)
-        _library.liquid_render(page, out, room, message, message_room, outcome)
+        _library.liquid_render_within(page, max_memory, out, room, message, message_room, outcome)
         if outcome.needed <= room and outcome.message_len <= message_room:
             break
         room, message_room = max(room, outcome.needed), max(message_room, outcome.message_len)
@@ -185,6 +198,8 @@ def render(
     standard: bool = False,
     max_turns: int = 0,
     max_bytes: int = 0,
+    *,
+    max_memory: int = 0,
 ) -> str:
     """Renders a template over globals, and returns the page.
 
@@ -193,15 +208,16 @@ def render(
     nowhere; a template of standard Liquid sees it until the page ends. With ``lenient`` a name without a value is
     nil instead of an error. With ``standard`` the template has the tags, blocks and filters of standard Liquid;
     without it, the few tags and blocks of ``liquid_tags``, and no filters. A page that takes more than
-    ``max_turns`` turns of tags and blocks, or writes more than ``max_bytes`` bytes of UTF-8, is stopped; 0 means
-    no limit.
+    ``max_turns`` turns of tags and blocks, or writes more than ``max_bytes`` bytes of UTF-8, is stopped. The library
+    holds at most ``max_memory`` bytes at any moment; a page that takes more ends with an error of the kind
+    ``NO_MEMORY``. The arguments and the page that is returned are Python's memory, and don't count. 0 means no limit.
 
     Raises ``LiquidError`` if the page was not rendered to its end, and ``TypeError`` or ``ValueError`` for
     globals that are not JSON's.
     """
     page = _page(template, partials, sandboxed, lenient, standard, max_turns, max_bytes)
     page.globals = _json(globals)
-    return _rendered(page)
+    return _rendered(page, _limit(max_memory))
 
 
 def render_each(
@@ -213,10 +229,12 @@ def render_each(
     standard: bool = False,
     max_turns: int = 0,
     max_bytes: int = 0,
+    *,
+    max_memory: int = 0,
 ) -> list[str | LiquidError]:
     """Renders a template over each of these globals, and returns the pages in their order.
 
-    The template and the partials are read once. Each page is what ``render`` returns over these globals; in the
+    The template and the partials are read once, and ``max_memory`` is for all pages together. Each page is what ``render`` returns over these globals; in the
     place of a page that was not rendered to its end is the ``LiquidError`` that ``render`` raises.
     """
     page = _page(template, partials, sandboxed, lenient, standard, max_turns, max_bytes)
@@ -224,16 +242,17 @@ def render_each(
     pages: list[str | LiquidError] = []
     room = max(_LEAST_ROOM, 4 * (page.text.len * len(texts) + sum(text.len for text in texts)))
     while len(pages) < len(texts):
-        room = _extend(pages, page, texts[len(pages) :], room)
+        room = _extend(pages, page, texts[len(pages) :], room, _limit(max_memory))
     return pages
 
 
-def _extend(pages: list[str | LiquidError], page: _Page, texts: list[_Bytes], room: int) -> int:
+def _extend(pages: list[str | LiquidError], page: _Page, texts: list[_Bytes], room: int, max_memory: int) -> int:
     """Adds the pages over these globals as far as there is room, and returns how much room is wanted for the others."""
     count = len(texts)
     outcomes = (_Outcome * count)()
-    out, message = ctypes.create_string_buffer(room), ctypes.create_string_buffer(1)
-    _library.liquid_render_each(page, (_Bytes * count)(*texts), count, out, room, message, 0, outcomes, count)
+    out, message = _buffer(room), ctypes.create_string_buffer(1)
+    array = (_Bytes * count)(*texts)
+    _library.liquid_render_each_within(page, max_memory, array, count, out, room, message, 0, outcomes, count)
     bytes_of_pages = memoryview(out)
     place = 0
     for number, outcome in enumerate(outcomes):
@@ -244,15 +263,15 @@ def _extend(pages: list[str | LiquidError], page: _Page, texts: list[_Bytes], ro
         if outcome.kind == _OK:
             pages.append(rendered.decode())
         else:
-            pages.append(_error(outcome, _message(page, texts[number]), rendered))
+            pages.append(_error(outcome, _message(page, texts[number], max_memory), rendered))
     return 0
 
 
-def _message(page: _Page, text: _Bytes) -> str:
+def _message(page: _Page, text: _Bytes, max_memory: int) -> str:
     """Returns the text of the error of the page over these globals."""
     page.globals = text
     try:
-        _rendered(page)
+        _rendered(page, max_memory)
     except LiquidError as error:
         return error.message
     return _NO_MEMORY

@@ -1,9 +1,13 @@
 """The package, as its README says: python3 -m unittest discover -s python/tests"""
+import importlib.metadata
+import os
 import pickle
+import subprocess
+import sys
 import threading
 import unittest
 
-from liquid_core import Kind, LiquidError, render, render_each
+from liquid_core import Kind, LiquidError, proved, render, render_each
 
 
 class Pages(unittest.TestCase):
@@ -144,6 +148,75 @@ class Threads(unittest.TestCase):
         finally:
             threading.stack_size(before)
         self.assertEqual(pages, ["." * 30 + "end"])
+
+
+class Memory(unittest.TestCase):
+    # a text that takes more and more memory, and its globals
+    ROWS = [
+        ("{% assign x = 'ab' %}" + "{% assign x = x | append: x %}" * 60, "{}"),
+        ("{% assign x = 'aaaaaaaa' %}" + "{% assign x = x | replace: 'a', x %}" * 20, "{}"),
+        ("{% assign x = 'ab' %}" + "{% capture x %}{{ x }}{{ x }}{% endcapture %}" * 60, "{}"),
+        ("{% for i in (1..10000) %}{% for j in (1..10000) %}rain and snow{% endfor %}{% endfor %}", "{}"),
+        ("{{ x | size }}", '{"x": [' + '"rain", ' * 1000000 + "0]}"),
+    ]
+    # Renders in a process of its own, and prints the kind of the error, how much more memory the system has seen, and a
+    # page that is rendered afterwards.
+    CHILD = """
+import resource, sys, liquid_core
+def peak(): return resource.getrusage(resource.RUSAGE_SELF).ru_maxrss * 1024
+text, names = (part.encode() for part in sys.stdin.read().split(chr(0)))
+liquid_core.render("", "{}", standard=True)
+before = peak()
+try:
+    liquid_core.render(text, names, standard=True, max_memory=int(sys.argv[1]))
+except liquid_core.LiquidError as error:
+    print(error.kind.name, error.message)
+    print(peak() - before)
+    print(liquid_core.render("{{ x | upcase }}", {"x": "rain"}, standard=True, max_memory=int(sys.argv[1])))
+"""
+
+    def test_rows(self):
+        limit = 16 << 20
+        for text, names in self.ROWS:
+            with self.subTest(text[:60]):
+                words = [sys.executable, "-c", self.CHILD, str(limit)]
+                ran = subprocess.run(words, input=f"{text}\0{names}", capture_output=True, text=True)
+                kind, peak, page = ran.stdout.splitlines() or [ran.stderr, "0", ""]
+                self.assertEqual((kind, page), ("NO_MEMORY liquid: out of memory", "RAIN"))
+                # (the part of a page that was rendered is Python's too: as bytes, and as a text)
+                self.assertLessEqual(int(peak), (3 if "snow" in text else 1) * limit + (4 << 20))
+
+    def test_enough_memory(self):
+        for limit in (1 << 20, 0):
+            self.assertEqual(render("{% for i in (1..3) %}{{ i }}{% endfor %}", {}, max_memory=limit), "123")
+
+    def test_pages_share_a_limit(self):
+        text = "{% if x %}{% for i in (1..100000) %}rain{% endfor %}{% endif %}{{ x }}"
+        pages = render_each(text, [{"x": False}, {"x": True}, {"x": False}], max_memory=1 << 18)
+        self.assertEqual([getattr(it, "kind", it) for it in pages], ["false", Kind.NO_MEMORY, "false"])
+        self.assertEqual(pages[1].message, "liquid: out of memory")
+
+    def test_numbers(self):
+        for wrong in (-1, 2**64):
+            with self.assertRaises(ValueError):
+                render("", {}, max_memory=wrong)
+
+
+class Package(unittest.TestCase):
+    def test_the_version_says_whether_the_library_is_proved(self):
+        self.assertIs(type(proved), bool)
+        try:
+            version = importlib.metadata.version("liquid_core")
+        except importlib.metadata.PackageNotFoundError:
+            self.skipTest("the package is not installed")
+        self.assertEqual(version.endswith("+unproved"), not proved)
+
+    def test_without_a_library_the_import_says_how_to_build_it(self):
+        environment = {**os.environ, "LIQUID_CORE_LIBRARY": "/nowhere/libliquid.so"}
+        ran = subprocess.run([sys.executable, "-c", "import liquid_core"], env=environment, capture_output=True, text=True)
+        self.assertEqual(ran.returncode, 1)
+        self.assertIn("ImportError: the library can't be loaded: /nowhere/libliquid.so: ", ran.stderr)
+        self.assertIn("./liquid c --unproved", ran.stderr)
 
 
 if __name__ == "__main__":
