@@ -15,13 +15,14 @@ import json
 import mmap
 import os
 from collections.abc import Iterable, Mapping
+from decimal import Decimal
 from pathlib import Path
 from typing import Any, Union
 
 __all__ = ["Kind", "LiquidError", "proved", "render", "render_each"]
 
-_VERSION = 1
-_SANDBOXED, _LENIENT, _STANDARD = 1, 2, 4
+_VERSION = 2
+_SANDBOXED, _LENIENT, _STANDARD, _DECIMALS = 1, 2, 4, 8
 _OK, _SHORT = 0, 7
 _LEAST_ROOM, _LARGE_ROOM = 1 << 16, 1 << 20
 _MESSAGE_ROOM = 1 << 12
@@ -41,7 +42,7 @@ class Kind(enum.IntEnum):
     BAD_JSON = 3
     """The globals are not JSON."""
     NO_GLOBALS = 4
-    """The JSON is not an object, or has a number that is not a whole one of 64 bits."""
+    """The JSON is not an object, or has a number that is neither a whole one of 64 bits nor a decimal."""
     NO_TEXT = 5
     """A text is not UTF-8."""
     NO_MEMORY = 6
@@ -131,12 +132,22 @@ def _bytes(text: Text) -> _Bytes:
     return _Bytes(text, len(text))
 
 
+def _plain(value: object) -> int | str:
+    """Returns what JSON has in the place of a value that it doesn't have."""
+    if not isinstance(value, Decimal):
+        raise TypeError(f"{type(value).__name__} is not a value of JSON")
+    if not value.is_finite():
+        raise ValueError(f"{value} is not a number of JSON")
+    digits = format(value, "f")
+    return digits if "." in digits else int(digits)
+
+
 def _json(names: Globals) -> _Bytes:
     if isinstance(names, (str, bytes)):
         return _bytes(names)
     if not isinstance(names, Mapping):
         raise TypeError(f"globals are a mapping, or JSON as str or bytes, not {type(names).__name__}")
-    return _bytes(json.dumps(dict(names), ensure_ascii=False, allow_nan=False))
+    return _bytes(json.dumps(dict(names), ensure_ascii=False, allow_nan=False, default=_plain))
 
 
 def _limit(number: int) -> int:
@@ -151,7 +162,7 @@ def _page(
     """Returns a page without globals."""
     texts = [_Partial(_bytes(name), _bytes(text)) for name, text in partials.items()]
     array = (_Partial * max(len(texts), 1))(*texts)
-    options = _SANDBOXED * bool(sandboxed) | _LENIENT * bool(lenient) | _STANDARD * bool(standard)
+    options = _DECIMALS | _SANDBOXED * bool(sandboxed) | _LENIENT * bool(lenient) | _STANDARD * bool(standard)
     return _Page(_bytes(template), _bytes(b""), array, len(texts), options, _limit(max_turns), _limit(max_bytes))
 
 
@@ -203,8 +214,9 @@ def render(
 ) -> str:
     """Renders a template over globals, and returns the page.
 
-    ``globals`` is a mapping, or the JSON of an object. Its values are what JSON has, but for numbers with a
-    fraction. ``partials`` are texts by their names. In a sandbox (``sandboxed``) what the template assigns goes
+    ``globals`` is a mapping, or the JSON of an object. Its values are what JSON has, and ``Decimal``. A number with a
+    fraction is a decimal of at most 18 digits after the point: a string of its digits, with which the standard filters
+    calculate exactly. ``partials`` are texts by their names. In a sandbox (``sandboxed``) what the template assigns goes
     nowhere; a template of standard Liquid sees it until the page ends. With ``lenient`` a name without a value is
     nil instead of an error. With ``standard`` the template has the tags, blocks and filters of standard Liquid;
     without it, the few tags and blocks of ``liquid_tags``, and no filters. A page that takes more than

@@ -6,6 +6,7 @@ import subprocess
 import sys
 import threading
 import unittest
+from decimal import Decimal
 
 from liquid_core import Kind, LiquidError, proved, render, render_each
 
@@ -28,6 +29,11 @@ class Pages(unittest.TestCase):
         ("<{{ no.name }}>", {}, {"lenient": True}, "<>"),
         ("{{ 'rain' | upcase }}", {}, {"standard": True}, "RAIN"),
         ("{% case x %}{% when 1 or 2 %}few{% else %}many{% endcase %}", {"x": 2}, {"standard": True}, "few"),
+        ("{{ x }} {{ y }}", {"x": 1.5, "y": 0.1}, {}, "1.5 0.1"),
+        ("{{ x }}", {"x": 1e3}, {}, "1000.0"),
+        ("{{ x }} {{ y }}", '{"x": 1e3, "y": 1.50}', {}, "1000 1.50"),
+        ("{{ x }} {{ y }} {{ z }}", {"x": Decimal("12.50"), "y": Decimal("1E+3"), "z": [Decimal("-0.05")]}, {}, "12.50 1000 -0.05"),
+        ("{% if x == 5 %}five{% endif %}", {"x": Decimal(5)}, {}, "five"),
         ("{{ 'rain' }}", {}, {"max_bytes": 4, "max_turns": 2**64 - 1}, "rain"),
         ("{% for i in (1..4000) %}{{ i }} {% endfor %}", {}, {}, "".join(f"{i} " for i in range(1, 4001))),
     ]
@@ -46,7 +52,8 @@ class Errors(unittest.TestCase):
         ("ab{{ x }}", {}, {}, Kind.REFUSED, None, None, "ab"),
         ("ab{{ x }}", '{"a": }', {}, Kind.BAD_JSON, 1, 7, ""),
         ("", "[]", {}, Kind.NO_GLOBALS, None, None, ""),
-        ("", {"x": 1.5}, {}, Kind.NO_GLOBALS, None, None, ""),
+        ("", {"x": 1e300}, {}, Kind.NO_GLOBALS, None, None, ""),
+        ("", '{"x": 0.1234567890123456789}', {}, Kind.NO_GLOBALS, None, None, ""),
         ("", {"x": 2**63}, {}, Kind.NO_GLOBALS, None, None, ""),
         (b"\xff", {}, {}, Kind.NO_TEXT, None, None, ""),
         ("\ud800", {}, {}, Kind.NO_TEXT, None, None, ""),
@@ -68,7 +75,7 @@ class Errors(unittest.TestCase):
                 self.assertEqual(str(error), error.message)
 
     def test_what_is_no_json_raises_before_a_call(self):
-        for names, error in [(object(), TypeError), ([], TypeError), ({"x": object()}, TypeError), ({"x": float("nan")}, ValueError)]:
+        for names, error in [(object(), TypeError), ([], TypeError), ({"x": object()}, TypeError), ({"x": float("nan")}, ValueError), ({"x": Decimal("NaN")}, ValueError)]:
             with self.assertRaises(error):
                 render("", names)
         with self.assertRaises(TypeError):
