@@ -246,8 +246,9 @@ def render_each(
 ) -> list[str | LiquidError]:
     """Renders a template over each of these globals, and returns the pages in their order.
 
-    The template and the partials are read once, and ``max_memory`` is for all pages together. Each page is what ``render`` returns over these globals; in the
-    place of a page that was not rendered to its end is the ``LiquidError`` that ``render`` raises.
+    The template and the partials are read once, and ``max_memory`` is for all pages together. Each page is what
+    ``render`` returns over these globals; in the place of a page that was not rendered to its end is the
+    ``LiquidError`` that ``render`` raises.
     """
     page = _page(template, partials, sandboxed, lenient, standard, max_turns, max_bytes)
     texts = [_json(names) for names in globals]
