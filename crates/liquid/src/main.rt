@@ -24,11 +24,14 @@ fn words(rt: &HostRuntime) -> Result<Vec<String>, Fault<'static>> {
     }
 }
 
-/// Prints a text about the program.
+/// Prints a text about the program, and returns the status. If its reader has gone away, no message is due.
 fn say(rt: &HostRuntime, text: &str) -> Result<u8, Fault<'static>> {
     match rt.print(format_args!("{text}")) {
         Ok(()) => Ok(0),
-        Err(_) => Err(Fault::Refused(Error::with_msg(rt.alloc(), "Failed to render"))),
+        Err(error) => match error.kind() {
+            io::ErrorKind::BrokenPipe => Ok(1),
+            _ => Err(Fault::Refused(Error::with_msg(rt.alloc(), "Failed to render"))),
+        },
     }
 }
 

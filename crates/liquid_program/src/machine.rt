@@ -86,14 +86,37 @@ fn is_replaceable<R: Files>(rt: &R, path: &str) -> bool {
     }
 }
 
-fn write_file<R: Files>(rt: &R, path: &str, bytes: &[u8]) -> io::Result<()> {
-    let mut file = File::create(rt, path)?;
-    file.write_all(bytes)
+/// How many names are tried for a file beside another one.
+const MOST_NAMES: u32 = 100;
+
+// Makes a file beside the path, under a name that no other file has, and returns that name.
+fn create_beside<R: Files>(alloc: Global, rt: &R, path: &str) -> Result<(String, R::File), Unread> {
+    for number in 0..MOST_NAMES {
+        let Ok(beside) = format!(in alloc; "{path}.{number}.tmp") else {
+            return Err(Unread::Memory);
+        };
+        match File::create_new(rt, beside.as_str()) {
+            Ok(file) => return Ok((beside, file)),
+            Err(error) => match error.kind() {
+                ErrorKind::AlreadyExists => {}
+                _ => return Err(unread(error)),
+            },
+        }
+    }
+    Err(Unread::Fault)
 }
 
-// Writes the file beside, and puts it in the place of the one at the path.
-fn put_over<R: Files>(rt: &R, beside: &str, path: &str, bytes: &[u8]) -> io::Result<()> {
-    write_file(rt, beside, bytes)?;
+// Writes the bytes to the file beside the path, and puts it in the place of the one at the path.
+fn put_over<R: Files>(
+    rt: &R,
+    file: R::File,
+    beside: &str,
+    path: &str,
+    bytes: &[u8],
+) -> io::Result<()> {
+    let mut file = file;
+    file.write_all(bytes)?;
+    drop(file);
     fs::rename(rt, beside, path)
 }
 
@@ -117,10 +140,8 @@ impl<R: Files + AllocGlobal + Eprint + Clone + Drop> Folder for Machine<'_, R> {
         if !is_replaceable(self.rt, path) {
             return Err(Unread::Fault);
         }
-        let Ok(beside) = format!(in alloc; "{path}.tmp") else {
-            return Err(Unread::Memory);
-        };
-        match put_over(self.rt, beside.as_str(), path, bytes) {
+        let (beside, file) = create_beside(alloc, self.rt, path)?;
+        match put_over(self.rt, file, beside.as_str(), path, bytes) {
             Ok(()) => Ok(()),
             Err(error) => {
                 let _ = fs::remove_file(self.rt, beside.as_str());

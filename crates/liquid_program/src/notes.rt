@@ -55,7 +55,12 @@ fn collect_notes(
     };
     match error.place() {
         None => match requested_variable(message) {
-            Some(name) if !options.sandboxed => note_of_names(alloc, options.decimals, sources.json, name),
+            Some(name) if !options.sandboxed => note_of_names(
+                alloc,
+                options.decimals,
+                sources.json,
+                name,
+            ),
             _ => Ok(String::new(alloc)),
         },
         Some(place) => match partial_in(message) {

@@ -62,12 +62,7 @@ fn write_all<'w, F: Folder, E: Write>(
     ensures quiet { all_status result ≡ 0 → err.new ≡ err.old }
 {
     let json = text_of(alloc, files, pages.globals)?;
-    drop(globals_of(
-        alloc,
-        pages.options.decimals,
-        json.as_str(),
-        pages.globals,
-    )?);
+    drop(globals_of(alloc, pages.options.decimals, json.as_str(), pages.globals)?);
     let partials = partials_of(alloc, files, pages.ending, pages.partials)?;
     Ok(write_each(
         alloc,

@@ -17,7 +17,7 @@ ghost use Rattle.liquid_program.specs.meaning.Requests.{
   trouble_in,
 };
 ghost use Rattle.liquid_program.specs.meaning.Status.{exit_status, fault_status, settled};
-ghost use Rattle.liquid_program.specs.meaning.Written.{Placed, Prints, Runs, WritesOthers};
+ghost use Rattle.liquid_program.specs.meaning.Written.{Placed, Prints, WritesOthers};
 
 use crate::command::{Choices, Command, Options, Paths};
 use crate::explain::explain;
@@ -40,7 +40,8 @@ use std::io::{self, Write};
 /// `out`, over the globals of the JSON object. Each file directly in the folder DIR is a partial under its file name.
 /// With `--standard` the template has the standard filters in place of `append` and `fail`. With `--sandboxed` the
 /// object is the data of a sandbox without a name, over a runtime that has no globals. With `--lenient` a name or an
-/// index without a value is nil instead of an error. The options are in any order.
+/// index without a value is nil instead of an error. With `--decimals` a number of the object with a fraction is a
+/// decimal instead of an error. The options are in any order.
 ///
 /// With `--ext .EXT` only files with this ending are partials, under their names without it, also those in subfolders,
 /// under their paths in the folder. With `-o FILE` the page goes to this file, which is replaced only if the page is
@@ -87,40 +88,6 @@ pub fn run<F: Folder, W: Write, E: Write>(
             )
         }
         None => run_others(alloc, words, files, err),
-    }
-}
-
-/// Does what `run` does, to a sink.
-#[tactic(auto, using(crate::proofs::UntouchedSinks::untouched))]
-pub fn run_to<F: Folder, K: Sink, E: Write>(
-    alloc: Global,
-    words: &[String],
-    files: &mut F,
-    sink: &mut K,
-    err: &mut E,
-) -> u8
-    ensures usage { (result ≡ 2) ↔ (is_asked (map string_bytes words.now) ≡ false) }
-    ensures runs { Runs (map string_bytes words.now) (F.known files.old) (F.listed files.old) (F.known files.new)
-        (K.sunk sink.old) (K.sunk sink.new) result }
-    ensures requests { FollowsWords (map string_bytes words.now) (F.known files.old) (F.listed files.old)
-        (F.requests files.old) (F.requests files.new) result }
-    ensures quiet { result ≡ 0 → err.new ≡ err.old }
-    ensures destination { Grows (K.sunk sink.old) (K.sunk sink.new) }
-    ensures borrows { (K.sunk sink.new).lent ≡ (K.sunk sink.old).lent }
-{
-    match Command::from_words(words) {
-        Some(command) => {
-            let answer = execute_or_write(alloc, command, files, sink);
-            write_fault(
-                alloc,
-                command.choices.options.explain,
-                command.paths,
-                files,
-                answer,
-                err,
-            )
-        }
-        _ => run_others(alloc, words, files, err),
     }
 }
 
@@ -201,30 +168,6 @@ fn print_or_write<'w, F: Folder, W: Write>(
     match command.choices.output {
         None => print(alloc, command, files, out),
         Some(place) => write_page(alloc, command, place, files),
-    }
-}
-
-/// Executes a command and writes the result to a sink, or to the file that the command names.
-#[tactic(auto, using(crate::proofs::PagesLemmas::landing, crate::proofs::UntouchedSinks::untouched))]
-fn execute_or_write<'w, F: Folder, K: Sink>(
-    alloc: Global,
-    command: Command<'w>,
-    files: &mut F,
-    sink: &mut K,
-) -> Result<(), Fault<'w>>
-    ensures command { exit_status result ≢ 2 }
-    ensures placed { Placed (λ done. done) (asked_of command.entry) (asked_of command.entry).choices.output (F.known files.old)
-        (F.listed files.old) (F.known files.new) (K.sunk sink.old) (K.sunk sink.new) (exit_status result) }
-    ensures requests { WhereKnown (F.known files.old) (F.listed files.old) (λ all folders. Follows
-        (command_steps all folders (asked_of command.entry).choices.options.decimals (asked_of command.entry).paths
-        (asked_of command.entry).choices.ending)
-        (F.requests files.old) (F.requests files.new) result) }
-    ensures destination { Grows (K.sunk sink.old) (K.sunk sink.new) }
-    ensures borrows { (K.sunk sink.new).lent ≡ (K.sunk sink.old).lent }
-{
-    match command.choices.output {
-        None => execute(alloc, command, files, sink),
-        Some(file) => write_page(alloc, command, file, files),
     }
 }
 

@@ -111,13 +111,6 @@ WritesOthers None known listed left status = Same known left × (status ≡ 2)
 WritesOthers (Some pages) known listed left status = WritesPages pages known listed left status
 
 -- a command is executed; words that are not one write nothing, with status 2
-abbrev pub Runs : List (List ℕ) → (List ℕ → Option (Option (List ℕ))) → (Bool → List ℕ → Option (Option (List (List ℕ))))
-    → (List ℕ → Option (Option (List ℕ))) → Sunk → Sunk → ℕ → Type 0
-Runs words known listed left before after status =
-    MatchOption (command_of words) ((after ≡ before) × WritesOthers (pages_of words) known listed left status)
-    (λ asked. Placed (λ done. done) asked asked.choices.output known listed left before after status)
-
--- the same for the content of a writer
 abbrev pub Prints : List (List ℕ) → (List ℕ → Option (Option (List ℕ))) → (Bool → List ℕ → Option (Option (List (List ℕ))))
     → (List ℕ → Option (Option (List ℕ))) → Option (List ℕ) → Option (List ℕ) → ℕ → Type 0
 Prints words known listed left before after status =
