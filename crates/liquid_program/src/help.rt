@@ -15,7 +15,7 @@ DIR            a folder: each file directly in it is a partial, under the file's
 --sandboxed    the template can't change its names
 --lenient      a missing name or index is nil instead of an error
 --standard     the template has the tags, blocks and filters of standard Liquid
---decimals     a number of GLOBALS.json with a fraction is a decimal, such as "12.50", instead of an error
+--decimals     a number of GLOBALS.json with a fraction is a decimal instead of an error
 --turns N      the page may take N turns of tags and blocks
 --bytes N      the page may write N bytes
 --explain      an error says more: why a file can't be read, where a text is not JSON, where an open block begins, which
