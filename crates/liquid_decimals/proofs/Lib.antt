@@ -1,0 +1,6 @@
+pub mod Digits
+pub mod FloorLemmas
+pub mod Nearest
+pub mod DigitsRead
+pub mod Shared
+pub mod Tens

@@ -1,0 +1,5 @@
+pub mod Arithmetic
+pub mod Dec
+pub mod Rounding
+pub mod Text
+pub mod Written
