@@ -53,7 +53,9 @@ pub fn is_whole(decimal: Decimal) -> bool
     decimal.scale() == 0
 }
 
-fn decimal_value(alloc: Global, decimal: Decimal) -> Result<Value, Error>
+/// Returns the decimal as a value: a number if it has no digits after the point, and otherwise its text. Fails if memory runs
+/// out.
+pub fn decimal_value(alloc: Global, decimal: Decimal) -> Result<Value, Error>
     ensures { Gives tree_of result (Ok (decimal_tree (dec decimal))) }
 {
     if is_whole(decimal) {
