@@ -10,7 +10,7 @@ use Rattle.liquid_decimals.specs.meaning.Dec.{Dec, limited, signed}
 use Rattle.liquid_decimals.specs.meaning.Rounding.{nearest, round_to_power}
 use Rattle.liquid_decimals.proofs.Tens.{tens_le}
 
-doubled_left : (q d : ℕ) → q * (2 * d) ≡ 2 * (q * d)
+pub doubled_left : (q d : ℕ) → q * (2 * d) ≡ 2 * (q * d)
 doubled_left q d = sym (mul_assoc q 2 d) ∙ ap (λ x. x * d) (mul_comm q 2) ∙ mul_assoc 2 q d
 
 -- the quotient of a division with rest, rounded: a rest of half the divisor or more adds one

@@ -4,6 +4,7 @@
 mod arithmetic;
 mod decimal;
 mod division;
+pub mod laws;
 mod parts;
 mod reading;
 mod writing;

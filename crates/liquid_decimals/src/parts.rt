@@ -18,6 +18,16 @@ impl Decimal {
         Some(Decimal { mantissa, scale })
     }
 
+    /// Returns a whole number as a decimal without digits after the point.
+    pub fn from_whole(number: i64) -> Decimal
+        ensures { dec result ≡ (number, 0) }
+    {
+        Decimal {
+            mantissa: number,
+            scale: 0,
+        }
+    }
+
     /// Returns the decimal without its point.
     pub fn mantissa(&self) -> i64
         ensures { result ≡ (dec self.now).0 }

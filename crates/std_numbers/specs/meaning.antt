@@ -1,3 +1,5 @@
+pub mod Digits
 pub mod Division
-pub mod Rounding
 pub mod Filters
+pub mod Rounding
+pub mod Units

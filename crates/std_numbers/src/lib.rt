@@ -2,7 +2,9 @@
 #![tactic(auto)]
 
 pub mod arithmetic;
+mod digits;
 mod division;
 pub mod laws;
 mod rounding;
 pub mod single;
+pub mod units;

@@ -1,3 +1,4 @@
+pub mod Decimals
 pub mod Errors
 pub mod Numbers
 pub mod Items

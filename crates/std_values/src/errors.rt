@@ -2,7 +2,7 @@
 ghost use Rattle.std.specs.Prelude.{◌≡◌, IfSome};
 ghost use Rattle.liquid_error.specs.meaning.Told.{told};
 ghost use Rattle.liquid_value.specs.meaning.View.{view as tree_of};
-ghost use Rattle.std_values.specs.meaning.Errors.{array_expected, decoded_no_text, divided_by_zero, found_error};
+ghost use Rattle.std_values.specs.meaning.Errors.{array_expected, decoded_no_text, digits_past_limit, divided_by_zero, found_error};
 ghost use Rattle.std_values.specs.meaning.Errors.{invalid_base64, object_expected, past_limit, unexpected_arguments};
 ghost use Rattle.std_values.specs.meaning.Errors.{whole_number_expected, without_order};
 
@@ -30,6 +30,13 @@ pub fn past_limit(alloc: Global) -> Error
     ensures { IfSome (told result) (λ r. r ≡ past_limit) }
 {
     Error::with_msg(alloc, "Number past its limit")
+}
+
+/// Returns the error for digits after the point that are too few for a number, or fewer than none.
+pub fn digits_past_limit(alloc: Global) -> Error
+    ensures { IfSome (told result) (λ r. r ≡ digits_past_limit) }
+{
+    Error::with_msg(alloc, "Digits past their limit")
 }
 
 /// Returns the error for a division by 0.

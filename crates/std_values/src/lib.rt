@@ -1,6 +1,7 @@
-//! What the standard filters read of a value: its items, its number, a property; and their errors.
+//! What the standard filters read of a value: its items, its number, its decimal, a property; and their errors.
 #![tactic(auto)]
 
+pub mod decimals;
 pub mod errors;
 pub mod items;
 pub mod numbers;

@@ -20,6 +20,10 @@ whole_number_expected t = found_error (codes "Whole number expected") t
 abbrev pub past_limit : Refusal
 past_limit = plain (codes "Number past its limit")
 
+-- digits after the point that are too few for a number, or fewer than none
+abbrev pub digits_past_limit : Refusal
+digits_past_limit = plain (codes "Digits past their limit")
+
 -- a divisor that is 0
 abbrev pub divided_by_zero : Refusal
 divided_by_zero = plain (codes "Divided by zero")

@@ -1,0 +1,33 @@
+//! Consequences of what decimals mean, a function for each. Its body is empty, and its contract is the law.
+ghost use Rattle.std.specs.Prelude.{◌≡◌, ◌≤◌, ◌<◌, ◌+◌, ◌*◌, IfSome};
+ghost use Rattle.liquid_decimals.specs.meaning.Arithmetic.{mantissa_at, minus, plus, shared_scale, times};
+ghost use Rattle.liquid_decimals.specs.meaning.Dec.{SameValue, dec, limited};
+ghost use Rattle.liquid_decimals.specs.meaning.Rounding.{nearest};
+
+use crate::decimal::Decimal;
+
+/// The order of two addends doesn't matter, and neither does that of two factors.
+#[tactic(auto, using(crate::proofs::LawProofs::plus_swapped, crate::proofs::LawProofs::times_swapped))]
+pub fn sums_and_products_are_commutative(a: Decimal, b: Decimal)
+    ensures sums { plus (dec a) (dec b) ≡ plus (dec b) (dec a) }
+    ensures products { times (dec a) (dec b) ≡ times (dec b) (dec a) }
+{}
+
+/// A decimal that is written with more digits after the point means the same number.
+pub fn more_digits_keep_the_value(decimal: Decimal, scale: u32)
+    ensures { (dec decimal).1 ≤ scale → SameValue (mantissa_at scale (dec decimal), scale) (dec decimal) }
+{}
+
+/// A number that is taken away and added again leaves the decimal with the greater of the two scales.
+pub fn minus_undoes_plus(a: Decimal, b: Decimal)
+    ensures { IfSome (minus (dec a) (dec b)) (λ rest. plus rest (dec b)
+        ≡ limited (mantissa_at (shared_scale (dec a) (dec b)) (dec a)) (shared_scale (dec a) (dec b))) }
+{}
+
+/// No multiple of the divisor is nearer to the dividend than the rounded quotient's: the two are at most half a divisor apart,
+/// and a half is rounded up.
+#[tactic(auto, using(crate::proofs::LawProofs::nearest_from_below, crate::proofs::LawProofs::nearest_from_above))]
+pub fn rounding_is_to_the_nearest(dividend: u64, divisor: u64)
+    ensures below { 0 < divisor → 2 * (nearest dividend divisor * divisor) ≤ 2 * dividend + divisor }
+    ensures above { 0 < divisor → 2 * dividend + divisor < 2 * (nearest dividend divisor * divisor) + 2 * divisor }
+{}
