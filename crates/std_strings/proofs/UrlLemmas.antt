@@ -67,7 +67,7 @@ and_true : (b : Bool) → (b && true) ≡ b
 and_true true = refl
 and_true false = refl
 
-occurs_one : (c : ℕ) (text : List ℕ) (i : ℕ) → i < length text → occurs_at text (c ∷ []) i ≡ eqb (get_or text i 0) c
+pub occurs_one : (c : ℕ) (text : List ℕ) (i : ℕ) → i < length text → occurs_at text (c ∷ []) i ≡ eqb (get_or text i 0) c
 occurs_one c text i h =
     let fits : nat_le (i + 1) (length text) ≡ true = grind (arith, nat_tests) in
     rw (fits, drop-cons text i 0 h) (and_true (eqb (get_or text i 0) c))
