@@ -6,3 +6,4 @@ pub mod FieldLemmas
 pub mod MomentLemmas
 pub mod NameLemmas
 pub mod WordLemmas
+pub mod StampLemmas
