@@ -25,7 +25,17 @@ use Rattle.liquid_dates.proofs.UnixTimeLemmas.{unix_once}
 use Rattle.liquid_dates.proofs.WholeLemmas.{date_once}
 use Rattle.liquid_scalar.specs.meaning.Scalar.{Scal, integer, boolean, text, date, date_time}
 use Rattle.liquid_value.specs.meaning.Tree.{Tree, nil, state, scalar, array, object}
-use Rattle.std_dates.specs.meaning.Moments.{IsMidnight, IsMidnightText, IsTextAt, IsMomentText, IsMomentOfScalar, IsMomentOf}
+use Rattle.std_dates.specs.meaning.MomentText.{IsMomentInText}
+use Rattle.std_dates.specs.meaning.Moments.{
+  IsMidnight,
+  IsMidnightText,
+  IsPlainTextAt,
+  IsTextAt,
+  IsMomentText,
+  IsMomentOfScalar,
+  IsMomentOf,
+}
+use Rattle.std_dates.proofs.FieldLemmas.{moment_in_text_decided, moment_in_text_once}
 use Rattle.std_dates.proofs.Days.{unix_decided}
 use Rattle.std_dates.proofs.Deciding.{Either, Decided, both, one_of, equal_texts, fits, is_numeral, first_decided}
 use Rattle.std_dates.proofs.Forms.{date_decided, date_time_decided}
@@ -148,17 +158,28 @@ midnight_text_decided bytes now = by_date (date_text_decided bytes now)
     by_date (inr none) = inr (λ dt h. none h.0 h.1)
 
 -- either of them
-pub text_at_decided : (bytes : List ℕ) (now : DateTime) → Decided (IsTextAt now bytes)
-text_at_decided bytes now =
+plain_text_decided : (bytes : List ℕ) (now : DateTime) → Decided (IsPlainTextAt now bytes)
+plain_text_decided bytes now =
     first_decided (λ b dt. IsDateTimeText b now dt) (IsMidnightText now) bytes (date_time_text_decided bytes now)
     (midnight_text_decided bytes now)
 
+plain_text_once : (bytes : List ℕ) (now a b : DateTime) → IsPlainTextAt now bytes a → IsPlainTextAt now bytes b → a ≡ b
+plain_text_once bytes now a b (inl h) (inl k) = date_time_text_once bytes now a b h k
+plain_text_once bytes now a b (inl h) (inr (none, _)) = absurd (none a h)
+plain_text_once bytes now a b (inr (none, _)) (inl k) = absurd (none b k)
+plain_text_once bytes now a b (inr (_, (c, is, at))) (inr (_, (d, is₂, at₂))) =
+    midnight_once c d a b (date_text_once bytes now c d is is₂) at at₂
+
+-- or the date time of another spelling
+text_at_decided : (bytes : List ℕ) (now : DateTime) → Decided (IsTextAt now bytes)
+text_at_decided bytes now =
+    first_decided (IsPlainTextAt now) IsMomentInText bytes (plain_text_decided bytes now) (moment_in_text_decided bytes)
+
 text_at_once : (bytes : List ℕ) (now a b : DateTime) → IsTextAt now bytes a → IsTextAt now bytes b → a ≡ b
-text_at_once bytes now a b (inl h) (inl k) = date_time_text_once bytes now a b h k
+text_at_once bytes now a b (inl h) (inl k) = plain_text_once bytes now a b h k
 text_at_once bytes now a b (inl h) (inr (none, _)) = absurd (none a h)
 text_at_once bytes now a b (inr (none, _)) (inl k) = absurd (none b k)
-text_at_once bytes now a b (inr (_, (c, is, at))) (inr (_, (d, is₂, at₂))) =
-    midnight_once c d a b (date_text_once bytes now c d is is₂) at at₂
+text_at_once bytes now a b (inr (_, h)) (inr (_, k)) = moment_in_text_once bytes a b h k
 
 -- a text other than `now` and `today` means the same at each moment
 date_time_anywhen : (bytes : List ℕ) (now then dt : DateTime) → ¬ (IsNow bytes) → IsDateTimeText bytes now dt → IsDateTimeText bytes then dt
@@ -169,10 +190,14 @@ date_anywhen : (bytes : List ℕ) (now then : DateTime) (d : CivilDate) → ¬ (
 date_anywhen bytes now then d other (inl (e, _)) = absurd (other (today_is_now bytes e))
 date_anywhen bytes now then d other (inr h) = inr h
 
-pub text_anywhen : (bytes : List ℕ) (now then dt : DateTime) → ¬ (IsNow bytes) → IsTextAt now bytes dt → IsTextAt then bytes dt
-text_anywhen bytes now then dt other (inl h) = inl (date_time_anywhen bytes now then dt other h)
-text_anywhen bytes now then dt other (inr (none, (d, is, at))) =
+plain_anywhen : (bytes : List ℕ) (now then dt : DateTime) → ¬ (IsNow bytes) → IsPlainTextAt now bytes dt → IsPlainTextAt then bytes dt
+plain_anywhen bytes now then dt other (inl h) = inl (date_time_anywhen bytes now then dt other h)
+plain_anywhen bytes now then dt other (inr (none, (d, is, at))) =
     inr (λ e h. none e (date_time_anywhen bytes then now e other h), (d, date_anywhen bytes now then d other is, at))
+
+pub text_anywhen : (bytes : List ℕ) (now then dt : DateTime) → ¬ (IsNow bytes) → IsTextAt now bytes dt → IsTextAt then bytes dt
+text_anywhen bytes now then dt other (inl h) = inl (plain_anywhen bytes now then dt other h)
+text_anywhen bytes now then dt other (inr (none, is)) = inr (λ e h. none e (plain_anywhen bytes then now e other h), is)
 
 -- some date time
 epoch : DateTime

@@ -1,67 +1,89 @@
 //! The moment that a value means.
-ghost use Rattle.std.specs.Prelude.{◌≡◌, ◌↔◌, ℤ, IfSome, IfNone, IsSome, IsTrue, string_bytes};
+ghost use Rattle.std.specs.Prelude.{◌≡◌, ◌↔◌, ℤ, IfOk, IfSome, IfNone, IsSome, IsTrue, string_bytes};
 ghost use Rattle.jiff_core.specs.Calendar.{IsWithin};
 ghost use Rattle.jiff_core.specs.Timestamp.{nanos_of_seconds};
 ghost use Rattle.liquid_dates.specs.declared.date_time.DateTime.{DateTime};
 ghost use Rattle.liquid_dates.specs.meaning.DateText.{IsNow, IsUnixTime};
 ghost use Rattle.liquid_scalar.specs.meaning.Scalar.{scal};
 ghost use Rattle.liquid_value.specs.meaning.View.{view as tree_of};
-ghost use Rattle.std_dates.specs.meaning.Moments.{IsMidnight, IsMomentOf, IsMomentOfScalar, IsMomentText, IsTextAt};
+ghost use Rattle.std_dates.specs.meaning.Moments.{IsMidnight, IsMomentOf, IsMomentOfScalar, IsMomentText, IsPlainTextAt, IsTextAt};
+ghost use Rattle.std_dates.specs.meaning.MomentText.{IsMomentInText};
 
+use crate::fields::date_time_of;
+use crate::moment_text::fields_of;
 use liquid_dates::{Date, DateTime};
 use liquid_scalar::{Scalar, ScalarOf};
 use liquid_value::Value;
+use std::alloc::{AllocError, Global};
 
 /// Returns the date time that a value means, if there is one.
 ///
 /// A date time means itself, a date its midnight at offset 0, and a number that many seconds since 1970. A text means
-/// the date time that it writes, otherwise the date that it writes. `now` and `today` are the moment that is given, if
-/// one is.
-pub fn moment_of(value: &Value, now: Option<DateTime>) -> Option<DateTime>
-    ensures fits { IfSome result (λ dt. IsMomentOf now (tree_of value.now) dt) }
-    ensures none { IfNone result ((dt : DateTime) → ¬ (IsMomentOf now (tree_of value.now) dt)) }
+/// the date time or the date that it writes, first as [`DateTime::from_str`] and [`Date::from_str`] read it, then in
+/// the other spellings of programs and people. `now` and `today` are the moment that is given, if one is.
+///
+/// # Errors
+///
+/// Fails if memory runs out.
+pub fn moment_of(
+    alloc: Global,
+    value: &Value,
+    now: Option<DateTime>,
+) -> Result<Option<DateTime>, AllocError>
+    ensures fits { IfOk result (λ o. IfSome o (λ dt. IsMomentOf now (tree_of value.now) dt)) }
+    ensures none { IfOk result (λ o. IfNone o ((dt : DateTime) → ¬ (IsMomentOf now (tree_of value.now) dt))) }
 {
     match value {
-        Value::Scalar(scalar) => moment_of_scalar(scalar, now),
-        Value::State(_) | Value::Nil | Value::Array(_) | Value::Object(_) => None,
+        Value::Scalar(scalar) => moment_of_scalar(alloc, scalar, now),
+        Value::State(_) | Value::Nil | Value::Array(_) | Value::Object(_) => Ok(None),
     }
 }
 
-fn moment_of_scalar(scalar: &Scalar, now: Option<DateTime>) -> Option<DateTime>
-    ensures fits { IfSome result (λ dt. IsMomentOfScalar now (scal string_bytes scalar.now) dt) }
-    ensures none { IfNone result ((dt : DateTime) → ¬ (IsMomentOfScalar now (scal string_bytes scalar.now) dt)) }
+fn moment_of_scalar(
+    alloc: Global,
+    scalar: &Scalar,
+    now: Option<DateTime>,
+) -> Result<Option<DateTime>, AllocError>
+    ensures fits { IfOk result (λ o. IfSome o (λ dt. IsMomentOfScalar now (scal string_bytes scalar.now) dt)) }
+    ensures none { IfOk result (λ o. IfNone o ((dt : DateTime) → ¬ (IsMomentOfScalar now (scal string_bytes scalar.now) dt))) }
 {
     match scalar {
-        ScalarOf::Integer(seconds) => at_unix_seconds(*seconds),
-        ScalarOf::Bool(_) => None,
-        ScalarOf::Str(text) => moment_of_text(text.as_str(), now),
-        ScalarOf::Date(date) => midnight(*date),
-        ScalarOf::DateTime(date_time) => Some(*date_time),
+        ScalarOf::Integer(seconds) => Ok(at_unix_seconds(*seconds)),
+        ScalarOf::Bool(_) => Ok(None),
+        ScalarOf::Str(text) => moment_of_text(alloc, text.as_str(), now),
+        ScalarOf::Date(date) => Ok(midnight(*date)),
+        ScalarOf::DateTime(date_time) => Ok(Some(*date_time)),
     }
 }
 
-fn moment_of_text(text: &str, now: Option<DateTime>) -> Option<DateTime>
-    ensures fits { IfSome result (λ dt. IsMomentText now text.now dt) }
-    ensures none { IfNone result ((dt : DateTime) → ¬ (IsMomentText now text.now dt)) }
+fn moment_of_text(
+    alloc: Global,
+    text: &str,
+    now: Option<DateTime>,
+) -> Result<Option<DateTime>, AllocError>
+    ensures fits { IfOk result (λ o. IfSome o (λ dt. IsMomentText now text.now dt)) }
+    ensures none { IfOk result (λ o. IfNone o ((dt : DateTime) → ¬ (IsMomentText now text.now dt))) }
 {
     match now {
-        Some(now) => text_at(text, &now),
+        Some(now) => text_at(alloc, text, &now),
         None => if is_now(text) {
-            None
+            Ok(None)
         } else {
-            text_at_any_moment(text)
+            text_at_any_moment(alloc, text)
         },
     }
 }
 
 /// Returns the date time that a text means at each moment.
-fn text_at_any_moment(text: &str) -> Option<DateTime>
+fn text_at_any_moment(alloc: Global, text: &str) -> Result<Option<DateTime>, AllocError>
     requires { ¬ (IsNow text.now) }
-    ensures fits { IfSome result (λ dt. (now : DateTime) → IsTextAt now text.now dt) }
-    ensures none { IfNone result ((dt : DateTime) → ¬ ((now : DateTime) → IsTextAt now text.now dt)) }
+    ensures fits { IfOk result (λ o. IfSome o (λ dt. (now : DateTime) → IsTextAt now text.now dt)) }
+    ensures none { IfOk result (λ o. IfNone o ((dt : DateTime) → ¬ ((now : DateTime) → IsTextAt now text.now dt))) }
 {
-    let epoch = epoch()?;
-    text_at(text, &epoch)
+    match epoch() {
+        Some(epoch) => text_at(alloc, text, &epoch),
+        None => Ok(None),
+    }
 }
 
 fn epoch() -> Option<DateTime>
@@ -73,10 +95,22 @@ fn epoch() -> Option<DateTime>
     }
 }
 
+/// Returns the date time that a text writes, otherwise midnight of the date that it writes, otherwise the date time of
+/// another spelling.
+fn text_at(alloc: Global, text: &str, now: &DateTime) -> Result<Option<DateTime>, AllocError>
+    ensures fits { IfOk result (λ o. IfSome o (λ dt. IsTextAt now.now text.now dt)) }
+    ensures none { IfOk result (λ o. IfNone o ((dt : DateTime) → ¬ (IsTextAt now.now text.now dt))) }
+{
+    match plain_text_at(text, now) {
+        Some(date_time) => Ok(Some(date_time)),
+        None => moment_in_text(alloc, text),
+    }
+}
+
 /// Returns the date time that a text writes, otherwise midnight of the date that it writes.
-fn text_at(text: &str, now: &DateTime) -> Option<DateTime>
-    ensures fits { IfSome result (λ dt. IsTextAt now.now text.now dt) }
-    ensures none { IfNone result ((dt : DateTime) → ¬ (IsTextAt now.now text.now dt)) }
+fn plain_text_at(text: &str, now: &DateTime) -> Option<DateTime>
+    ensures fits { IfSome result (λ dt. IsPlainTextAt now.now text.now dt) }
+    ensures none { IfNone result ((dt : DateTime) → ¬ (IsPlainTextAt now.now text.now dt)) }
 {
     match DateTime::from_str(text, *now) {
         Some(date_time) => Some(date_time),
@@ -84,6 +118,17 @@ fn text_at(text: &str, now: &DateTime) -> Option<DateTime>
             Some(date) => midnight(date),
             None => None,
         },
+    }
+}
+
+/// Returns the date time of another spelling.
+fn moment_in_text(alloc: Global, text: &str) -> Result<Option<DateTime>, AllocError>
+    ensures fits { IfOk result (λ o. IfSome o (λ dt. IsMomentInText text.now dt)) }
+    ensures none { IfOk result (λ o. IfNone o ((dt : DateTime) → ¬ (IsMomentInText text.now dt))) }
+{
+    match fields_of(alloc, text)? {
+        Some(fields) => Ok(date_time_of(fields)),
+        None => Ok(None),
     }
 }
 

@@ -40,7 +40,7 @@ fn print(alloc: Global, now: Option<DateTime>, input: &Value, pattern: &str) -> 
     if pattern.is_empty() {
         return Ok(input.clone()?);
     }
-    match moment_of(input, now) {
+    match moment_of(alloc, input, now)? {
         Some(moment) => format(alloc, &moment, pattern),
         None => Ok(input.clone()?),
     }

@@ -3,3 +3,5 @@ pub mod Keys
 pub mod Entries
 pub mod Choices
 pub mod Sums
+pub mod Searches
+pub mod Tests

@@ -124,7 +124,7 @@ fn distinct(alloc: Global, entries: &[Entry<'_>]) -> Result<Value, AllocError>
 }
 
 /// Appends a copy of the item.
-fn push_copy(kept: &mut Array, item: &Value) -> Result<(), AllocError>
+pub(crate) fn push_copy(kept: &mut Array, item: &Value) -> Result<(), AllocError>
     ensures { OnOk result (map tree_of kept.new.items ≡ map tree_of kept.old.items ++ tree_of item.now ∷ []) }
 {
     kept.push(item.clone()?)?;
@@ -132,7 +132,7 @@ fn push_copy(kept: &mut Array, item: &Value) -> Result<(), AllocError>
 }
 
 /// Returns `true` if a property is the one that is wanted, or is truthy if nil is wanted.
-fn is_wanted(wanted: &Value, key: &Value) -> bool
+pub(crate) fn is_wanted(wanted: &Value, key: &Value) -> bool
     ensures { result ≡ is_wanted (tree_of wanted.now) (tree_of key.now) }
 {
     match wanted {

@@ -4,4 +4,5 @@
 pub mod choices;
 pub mod keys;
 pub mod lists;
+pub mod searches;
 pub mod sums;

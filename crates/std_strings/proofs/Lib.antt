@@ -4,6 +4,7 @@ pub mod EscapeLemmas
 pub mod HtmlLemmas
 pub mod PieceLemmas
 pub mod PlaceLemmas
+pub mod StripLemmas
 pub mod TagLemmas
 pub mod UrlLemmas
 pub mod Utf8Lemmas

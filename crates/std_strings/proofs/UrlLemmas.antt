@@ -14,6 +14,10 @@ use Rattle.std.proofs.Common.{
   false,
   cond,
   ◌&&◌,
+  ◌||◌,
+  not,
+  ⊎_elim,
+  subst,
   List,
   [],
   ◌∷◌,
@@ -37,19 +41,19 @@ use Rattle.std.proofs.Common.{
 }
 use Rattle.std.specs.Prelude.{slice_range}
 use Rattle.std.specs.Str.{IsUtf8}
-use Rattle.std.proofs.lemmas.Bool.{eqb-true}
+use Rattle.std.proofs.lemmas.Bool.{agree_below, agree_below_at, cases_lt, eqb-true}
 use Rattle.std.proofs.lemmas.List.Elements.{All-head, All-tail}
 use Rattle.std.proofs.lemmas.Str.{is_utf8-from_IsUtf8}
 use Rattle.percent_encoding.specs.AsciiSet.{contains, should_percent_encode}
-use Rattle.percent_encoding.specs.Percent.{percent_encode}
+use Rattle.percent_encoding.specs.Percent.{encode_byte, percent_encode, percent_encode_byte}
 use Rattle.percent_encoding.proofs.AsciiSetLemmas.{escaped_from_inside}
-use Rattle.percent_encoding.proofs.PercentLemmas.{All-percent_encode, IsByte, round_trip}
+use Rattle.percent_encoding.proofs.PercentLemmas.{All-percent_encode, All-percent_encode_byte, IsByte, IsEscapeByte, round_trip}
 use Rattle.std_strings.specs.declared.url.TheConstants.{ESCAPED}
-use Rattle.std_strings.specs.meaning.Url.{url_decoded, url_encoded}
+use Rattle.std_strings.specs.meaning.Url.{stays_in_url, url_byte, url_decoded, url_encoded}
 use Rattle.std.specs.List.{All, flat_map, join_by}
 use Rattle.std.proofs.lemmas.Bool.Decides.{nat_tests}
 use Rattle.std.proofs.lemmas.List.Folds.{drop_split}
-use Rattle.std.proofs.lemmas.List.{get_or-drop}
+use Rattle.std.proofs.lemmas.List.{get_or-drop, map-append}
 use Rattle.std.proofs.Math.Seq.{drop-cons, drop-length, take-suc}
 use Rattle.memchr.specs.Find.{matches_from, occurs_at}
 use Rattle.std_strings.specs.meaning.Pieces.{pieces_between}
@@ -63,7 +67,7 @@ and_true : (b : Bool) → (b && true) ≡ b
 and_true true = refl
 and_true false = refl
 
-occurs_one : (c : ℕ) (text : List ℕ) (i : ℕ) → i < length text → occurs_at text (c ∷ []) i ≡ eqb (get_or text i 0) c
+pub occurs_one : (c : ℕ) (text : List ℕ) (i : ℕ) → i < length text → occurs_at text (c ∷ []) i ≡ eqb (get_or text i 0) c
 occurs_one c text i h =
     let fits : nat_le (i + 1) (length text) ≡ true = grind (arith, nat_tests) in
     rw (fits, drop-cons text i 0 h) (and_true (eqb (get_or text i 0) c))
@@ -161,9 +165,63 @@ no_plus text = All-percent_encode (λ b. b ≢ 43) ESCAPED text kept (λ b escap
     kept b e same = let yes = escaped_from_inside ESCAPED 43 plus_is_escaped in let no_escape : should_percent_encode ESCAPED 43 ≡ false =
         rw (← same) e in cc
 
+-- a byte in a URL is its escape, with a plus sign in place of a space
+escaped_in_table : agree_below (should_percent_encode ESCAPED) (λ b. not (stays_in_url b || eqb b 32)) 128 ≡ true
+unfolding should_percent_encode
+escaped_in_table = refl
+
+escaped_outside : (b : ℕ) → 128 ≤ b → (should_percent_encode ESCAPED b ≡ true) × (stays_in_url b ≡ false) × (eqb b 32 ≡ false)
+unfolding should_percent_encode
+escaped_outside b high = (grind (arith, nat_tests), grind (arith, nat_tests), grind (arith, nat_tests))
+
+no_space : (bs : List ℕ) → All IsEscapeByte bs → map (swap 32 43) bs ≡ bs
+no_space [] all = refl
+no_space (b ∷ bs) all =
+    let is = All-head IsEscapeByte b bs all in
+    let other : eqb b 32 ≡ false = grind (arith, nat_tests, is) in
+    rw (other, no_space bs (All-tail IsEscapeByte b bs all)) refl
+
+byte_in_url : (b : ℕ) (stays space escapes : Bool) → stays_in_url b ≡ stays → eqb b 32 ≡ space → should_percent_encode ESCAPED b ≡ escapes
+    → escapes ≡ not (stays || space) → (stays ≡ true → space ≡ false) → map (swap 32 43) (encode_byte ESCAPED b) ≡ url_byte b
+byte_in_url b true true escapes s t u e one = absurd (cc (one refl))
+byte_in_url b true false true s t u e one = absurd (cc)
+byte_in_url b true false false s t u e one = rw (s, u, t) refl
+byte_in_url b false true true s t u e one = absurd (cc)
+byte_in_url b false true false s t u e one = rw (s, u, t) refl
+byte_in_url b false false true s t u e one = rw (s, t, u) (no_space (percent_encode_byte b) (All-percent_encode_byte b))
+byte_in_url b false false false s t u e one = absurd (cc)
+
+space_goes : (b : ℕ) → stays_in_url b ≡ true → eqb b 32 ≡ false
+space_goes b stays = by_test (eqb b 32) refl
+  where
+    by_test : (t : Bool) → eqb b 32 ≡ t → eqb b 32 ≡ false
+    by_test true t = let P : ℕ → Type 0 = λ x. stays_in_url x ≡ true in let goes : false ≡ true =
+        subst P (eqb-true b 32 t) stays in absurd (cc)
+    by_test false t = t
+
+each_byte : (b : ℕ) → map (swap 32 43) (encode_byte ESCAPED b) ≡ url_byte b
+each_byte b = ⊎_elim
+    (λ low. byte_in_url b _ _ _ refl refl refl (agree_below_at (should_percent_encode ESCAPED)
+    (λ b. not (stays_in_url b || eqb b 32)) 128 b escaped_in_table low) (space_goes b))
+    (λ high.
+    let outside = escaped_outside b high in
+    byte_in_url b false false true outside.1 outside.2 outside.0 refl (λ t. absurd (cc)))
+    (cases_lt b 128)
+
+by_bytes : (text : List ℕ) → map (swap 32 43) (percent_encode ESCAPED text) ≡ url_encoded text
+unfolding percent_encode
+by_bytes [] = refl
+by_bytes (b ∷ bs) =
+    map-append (swap 32 43) (encode_byte ESCAPED b) (percent_encode ESCAPED bs)
+    ∙ ap (λ t. t ++ map (swap 32 43) (percent_encode ESCAPED bs)) (each_byte b) ∙ ap (λ t. url_byte b ++ t) (by_bytes bs)
+
+pub encoded : (text : List ℕ) → replaced (32 ∷ []) (43 ∷ []) (percent_encode ESCAPED text) ≡ url_encoded text
+encoded text = swapped 32 43 (percent_encode ESCAPED text) ∙ by_bytes text
+
 pub read_back : (text : List ℕ) → IsUtf8 text → All IsByte text → url_decoded (url_encoded text) ≡ Some text
 read_back text utf8 bytes =
     rw (
+      ← encoded text,
       swapped 32 43 (percent_encode ESCAPED text),
       swapped 43 32 (map (swap 32 43) (percent_encode ESCAPED text)),
       back (percent_encode ESCAPED text) (no_plus text),

@@ -32,15 +32,26 @@ use Rattle.std.proofs.Common.{
   ⊎_elim,
   length-append,
 }
-use Rattle.std.proofs.lemmas.Bool.{cond-true, cond-false, cases_eq, ne_eqb, lt-ltb}
+use Rattle.std.proofs.lemmas.Bool.Decides.{nat_tests}
+use Rattle.std.proofs.lemmas.Bool.{cases_Bool, cond-true, cond-false, cases_eq, ne_eqb, lt-ltb}
 use Rattle.std.proofs.lemmas.List.{map-append, nil_from_length, take_more}
 use Rattle.std.specs.List.{take-map}
-use Rattle.std.proofs.lemmas.List.Elements.{All-nil, All-cons}
-use Rattle.std.proofs.lemmas.List.Splits.{slice_split_at, slice_split_none, slice_split-cons_yes}
-use Rattle.std.proofs.lemmas.Str.{chars_from_encodes, chars_past_char, encodes-append, encodes-chars, chars-nil}
-use Rattle.std.specs.Char.{is_whitespace, is_not_whitespace}
-use Rattle.std.specs.List.{All, filter, slice_split}
+use Rattle.std.proofs.lemmas.List.Elements.{All-nil, All-cons, filter-append}
+use Rattle.std.proofs.lemmas.List.Splits.{length-slice_split, slice_split_at, slice_split_none, slice_split-cons_no, slice_split-cons_yes}
+use Rattle.std.proofs.lemmas.Str.{
+  chars_from_encodes,
+  chars_past_char,
+  chars-append,
+  encodes-append,
+  encodes-chars,
+  chars-nil,
+  IsUtf8-append,
+  IsUtf8-encode,
+}
+use Rattle.std.specs.Char.{encode_utf8, is_whitespace, is_not_whitespace, IsScalar}
+use Rattle.std.specs.List.{All, filter, onto_first, slice_split}
 use Rattle.std.specs.Str.{chars, encode_utf8_all, IsUtf8, NonePass, NoCharPasses, EmptyOrStartsWithPassing}
+use Rattle.std_strings.specs.laws.Words.{IsOneWord, SpacePartsWords}
 use Rattle.std_strings.specs.meaning.Split.{words, without_empty_end}
 use Rattle.std_strings.proofs.PlaceLemmas.{after_text}
 
@@ -154,3 +165,43 @@ module _ {X : Type 0} (f : X → List ℕ) (xs : List X) (at kept : ℕ) (d : X)
 
   pub all_kept : length (f (get_or xs at d)) ≢ 0 → take (at + 1) (map f xs) ≡ without_empty_end (take (at + 1) (map f xs))
   all_kept some = one_more ∙ sym (ap without_empty_end one_more ∙ end_kept (take at (map f xs)) _ (omega arith))
+
+-- parts of a list and those after an element that parts them
+onto : {X : Type 0} (x : X) (l m : List (List X)) → 0 < length l → onto_first x (l ++ m) ≡ onto_first x l ++ m
+onto x [] m more = absurd (omega arith)
+onto x (part ∷ l) m more = refl
+
+split_append : {X : Type 0} (p : X → Bool) (xs : List X) (y : X) (ys : List X) → p y ≡ true
+    → slice_split p (xs ++ y ∷ ys) ≡ slice_split p xs ++ slice_split p ys
+split_append p [] y ys e = slice_split-cons_yes p y ys e
+split_append p (x ∷ xs) y ys e = ⊎_elim
+    (λ yes.
+    slice_split-cons_yes p x (xs ++ y ∷ ys) yes ∙ ap (λ l. [] ∷ l) (split_append p xs y ys e)
+    ∙ ap (λ l. l ++ slice_split p ys) (sym (slice_split-cons_yes p x xs yes)))
+    (λ no.
+    slice_split-cons_no p x (xs ++ y ∷ ys) no ∙ ap (onto_first x) (split_append p xs y ys e)
+    ∙ onto x (slice_split p xs) (slice_split p ys) (omega (arith, length-slice_split p xs))
+    ∙ ap (λ l. l ++ slice_split p ys) (sym (slice_split-cons_no p x xs no)))
+    (cases_Bool (p x))
+
+space_is_scalar : (c : ℕ) → is_whitespace c ≡ true → IsScalar c
+space_is_scalar c e = grind (arith, nat_tests)
+
+pub space_parts_words : (front back : List ℕ) (c : ℕ) → IsUtf8 front → IsUtf8 back → SpacePartsWords front c back
+space_parts_words front back c u v e =
+    let s = space_is_scalar c e in
+    let spelled : IsUtf8 (encode_utf8 c ++ back) = IsUtf8-append (encode_utf8 c) back (IsUtf8-encode c s) v in
+    let whole : chars (front ++ (encode_utf8 c ++ back)) ≡ chars front ++ c ∷ chars back =
+    chars-append front (encode_utf8 c ++ back) u
+    ∙ ap (λ l. chars front ++ l) (chars_past_char (encode_utf8 c ++ back) back c spelled refl) in
+    ap (λ cs. map encode_utf8_all (words_of cs)) whole
+    ∙ ap (λ l. map encode_utf8_all (filter is_word l)) (split_append is_whitespace (chars front) c (chars back) e)
+    ∙ ap (map encode_utf8_all) (filter-append is_word (slice_split is_whitespace (chars front)) (slice_split is_whitespace (chars back)))
+    ∙ map-append encode_utf8_all (words_of (chars front)) (words_of (chars back))
+
+pub is_one_word : (text : List ℕ) → IsUtf8 text → IsOneWord text
+is_one_word text u more all =
+    let some : 0 < length (chars text) = some_characters (chars text) text (encodes-chars text u) more in
+    ap (map encode_utf8_all)
+    (ap (filter is_word) (slice_split_none is_whitespace (chars text) all) ∙ kept (chars text) [] some)
+    ∙ ap (λ l. l ∷ []) (encodes-chars text u)

@@ -1,5 +1,7 @@
 //! Laws of the operations on texts. Each function only states its law.
 ghost use Rattle.std.specs.Prelude.{◌≡◌, ◌++◌, ℕ, List, Some};
+ghost use Rattle.std_strings.specs.laws.Stripped.{StrippedTextsHaveNoTag};
+ghost use Rattle.std_strings.specs.laws.Words.{IsOneWord, SpacePartsWords};
 ghost use Rattle.std_strings.specs.meaning.Cases.{lowercased};
 ghost use Rattle.std_strings.specs.meaning.Escape.{escaped, escaped_once};
 ghost use Rattle.std_strings.specs.meaning.Url.{url_decoded, url_encoded};
@@ -18,4 +20,17 @@ pub fn url_is_read_back(text: &str)
 /// The lower case of two texts, joined, is that of the first followed by that of the second.
 pub fn lower_case_is_by_parts(front: &str, back: &str)
     ensures { lowercased (front.now ++ back.now) ≡ lowercased front.now ++ lowercased back.now }
+{}
+
+/// In a text that was stripped of tags no `>` is after a `<`.
+#[tactic(auto, using(crate::proofs::StripLemmas::no_tag))]
+pub fn stripped_texts_have_no_tag()
+    ensures { StrippedTextsHaveNoTag }
+{}
+
+/// A white space character parts the words before it from those after it, and a text without white space is one word,
+/// if it is not empty.
+pub fn words_are_runs(front: &str, space: char, back: &str)
+    ensures parts { SpacePartsWords front.now space back.now }
+    ensures one { IsOneWord front.now }
 {}

@@ -15,7 +15,10 @@ mod utf8;
 pub use cases::{capitalize, to_lowercase};
 pub use cuts::{cut, truncate, truncate_words};
 pub use html::{escape, escape_once};
-pub use laws::{escaped_is_left_alone, lower_case_is_by_parts, url_is_read_back};
+pub use laws::{
+    escaped_is_left_alone, lower_case_is_by_parts, stripped_texts_have_no_tag, url_is_read_back,
+    words_are_runs,
+};
 pub use parts::{characters, pieces, split, words};
 pub use replacement::{replace, replace_first, replace_last, replace_line_ends};
 pub use slices::{slice, slice_items};

@@ -24,18 +24,13 @@ pub fn escape(alloc: Global, input: &Value) -> Result<Value, Error>
     }
 }
 
-/// Returns the text with each of these characters as its entity, except for an `&` that begins an entity. Nil is kept.
+/// Returns the text with each of these characters as its entity, except for an `&` that begins an entity.
 pub fn escape_once(alloc: Global, input: &Value) -> Result<Value, Error>
     ensures { Gives tree_of result (Ok (html_escaped_once (tree_of input.now))) }
 {
-    match input {
-        Value::Nil => Ok(Value::Nil),
-        other => {
-            let text = other.to_kstr(alloc)?;
-            let escaped = strings::escape_once(alloc, text.as_str())?;
-            Ok(Value::Scalar(ScalarOf::Str(escaped)))
-        }
-    }
+    let text = input.to_kstr(alloc)?;
+    let escaped = strings::escape_once(alloc, text.as_str())?;
+    Ok(Value::Scalar(ScalarOf::Str(escaped)))
 }
 
 /// Returns the text without scripts, comments and styles, and then without tags.

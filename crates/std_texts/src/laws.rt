@@ -1,9 +1,14 @@
 //! Laws of the filters on texts. Each function only states its law.
 ghost use Rattle.std.specs.Prelude.{◌≡◌, Ok};
-ghost use Rattle.std_texts.specs.meaning.Encoding.{base64_decoded, base64_encoded};
+ghost use Rattle.std_texts.specs.meaning.Encoding.{base64_decoded, base64_encoded, base64_url_safe_decoded, base64_url_safe_encoded};
 ghost use Rattle.std_texts.specs.meaning.Written.{written};
 
 /// The base64 of a text decodes to the text.
 pub fn base64_is_read_back(text: &str)
     ensures { base64_decoded (base64_encoded (written text.now)) ≡ Ok (written text.now) }
+{}
+
+/// The base64 of a text for URLs decodes to the text.
+pub fn base64_url_safe_is_read_back(text: &str)
+    ensures { base64_url_safe_decoded (base64_url_safe_encoded (written text.now)) ≡ Ok (written text.now) }
 {}

@@ -7,6 +7,7 @@ use Rattle.liquid_dates.specs.meaning.DateText.{Form, first, IsNow, IsDateText, 
 use Rattle.liquid_dates.specs.meaning.Instant.{civil_date, civil_time, offset_seconds}
 use Rattle.liquid_scalar.specs.meaning.Scalar.{Scal, integer, boolean, text, date, date_time}
 use Rattle.liquid_value.specs.meaning.Tree.{Tree, nil, state, scalar, array, object}
+use Rattle.std_dates.specs.meaning.MomentText.{IsMomentInText}
 
 -- midnight of a date at offset 0
 abbrev pub IsMidnight : CivilDate → DateTime → Type 0
@@ -18,8 +19,12 @@ IsMidnightText now bytes dt = (d : CivilDate) × IsDateText bytes now d × IsMid
 
 -- the date time that a text writes, otherwise midnight of the date that it writes, where `now` and `today` are this
 -- moment
+abbrev pub IsPlainTextAt : DateTime → Form DateTime
+IsPlainTextAt now = first (λ bytes dt. IsDateTimeText bytes now dt) (IsMidnightText now)
+
+-- the same, otherwise the date time of another spelling
 abbrev pub IsTextAt : DateTime → Form DateTime
-IsTextAt now = first (λ bytes dt. IsDateTimeText bytes now dt) (IsMidnightText now)
+IsTextAt now = first (IsPlainTextAt now) IsMomentInText
 
 -- the same without such a moment: `now` and `today` mean none, and any other text means the same at each moment
 abbrev pub IsMomentText : Option DateTime → Form DateTime

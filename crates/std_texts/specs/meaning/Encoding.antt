@@ -1,7 +1,7 @@
 -- What filters that encode and decode a text return.
 use Rattle.std.specs.Prelude.{ℕ, List, Option, Some, None, Result, Ok, Err}
 use Rattle.base64.specs.declared.decode.DecodeError.{DecodeError}
-use Rattle.base64.specs.Engines.{standard}
+use Rattle.base64.specs.Engines.{standard, url_safe}
 use Rattle.base64.specs.GeneralPurpose.{decode_of, encode_of}
 use Rattle.liquid_error.specs.meaning.Refusal.{Refusal}
 use Rattle.liquid_value.specs.meaning.Render.{render}
@@ -38,3 +38,10 @@ decoded_bytes (Err e) = Err invalid_base64
 -- the text whose base64 is the input
 abbrev pub base64_decoded : Tree → Result Tree Refusal
 base64_decoded input = decoded_bytes (decode_of standard (render input))
+
+-- the same with `-` and `_` in place of `+` and `/`, which mean something in URLs
+abbrev pub base64_url_safe_encoded : Tree → Tree
+base64_url_safe_encoded input = written (encode_of url_safe (render input))
+
+abbrev pub base64_url_safe_decoded : Tree → Result Tree Refusal
+base64_url_safe_decoded input = decoded_bytes (decode_of url_safe (render input))

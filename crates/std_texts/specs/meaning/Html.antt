@@ -10,9 +10,8 @@ abbrev pub html_escaped : Tree → Tree
 html_escaped nil = nil
 html_escaped input = written (escaped (render input))
 
--- the same, except for ampersands that begin an entity
+-- the text with entities too, except for ampersands that begin one; nil has the empty text
 abbrev pub html_escaped_once : Tree → Tree
-html_escaped_once nil = nil
 html_escaped_once input = written (escaped_once (render input))
 
 -- the text without scripts, comments and styles, and then without tags

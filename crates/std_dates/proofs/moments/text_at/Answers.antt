@@ -1,25 +1,19 @@
 use Rattle.std.proofs.Common.{inl, inr, List, ℕ}
-use Rattle.jiff_core.specs.declared.civil.date.Date.{Date as CivilDate}
 use Rattle.liquid_dates.specs.declared.date_time.DateTime.{DateTime}
-use Rattle.liquid_dates.specs.meaning.DateText.{IsDateText, IsDateTimeText}
-use Rattle.liquid_dates.proofs.WholeLemmas.{found_weaker}
-use Rattle.std_dates.specs.meaning.Moments.{IsTextAt}
+use Rattle.std_dates.specs.meaning.MomentText.{IsMomentInText}
+use Rattle.std_dates.specs.meaning.Moments.{IsPlainTextAt, IsTextAt}
+use Rattle.std_dates.proofs.FieldLemmas.{ok_none}
 use Rattle.std_dates.proofs.moments.text_at.Goals as goal
 
 pub returns-in-Some-clause-fits : goal.returns-in-Some-clause-fits
 returns-in-Some-clause-fits c = inl c.in-Some.ensures.fits
 
-pub returns-in-Some-from_str-clause-fits : goal.returns-in-Some-from_str-clause-fits
-returns-in-Some-from_str-clause-fits c =
-    found_weaker _ _ _ (λ dt at. inr (c.in-None.ensures.only, (c.in-Some-from_str.date, c.in-Some-from_str.ensures.fits, at)))
-    c.midnight.ensures.is
+-- a text that is no plain one
+other : (text : List ℕ) (now dt : DateTime) → ((e : DateTime) → ¬ (IsPlainTextAt now text e)) → IsTextAt now text dt → IsMomentInText text dt
+other text now dt none (inl is) = absurd (none dt is)
+other text now dt none (inr (_, is)) = is
 
--- neither a date time nor a date
-neither : (text : List ℕ) (now dt : DateTime) → ((e : DateTime) → ¬ (IsDateTimeText text now e))
-    → ((d : CivilDate) → ¬ (IsDateText text now d)) → ¬ (IsTextAt now text dt)
-neither text now dt none no_date (inl is) = none dt is
-neither text now dt none no_date (inr (_, (d, is, at))) = no_date d is
-
-pub returns-in-None-from_str-clause-none : goal.returns-in-None-from_str-clause-none
-returns-in-None-from_str-clause-none c = λ dt h.
-    neither c.args.text.now c.args.now.now dt c.in-None.ensures.only c.in-None-from_str.ensures.only h
+pub returns-in-None-clause-none : goal.returns-in-None-clause-none
+returns-in-None-clause-none c =
+    ok_none _ (IsMomentInText c.args.text.now) (IsTextAt c.args.now.now c.args.text.now)
+    (λ dt h. other c.args.text.now c.args.now.now dt c.in-None.ensures.none h) c.moment_in_text.ensures.none

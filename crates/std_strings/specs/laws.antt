@@ -1,0 +1,2 @@
+pub mod Stripped
+pub mod Words
