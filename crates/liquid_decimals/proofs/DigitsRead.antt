@@ -20,7 +20,7 @@ value_ge : (n : ℕ) (cs : List ℕ) → n ≤ digits_value_after 10 n cs
 value_ge n [] = omega arith
 value_ge n (c ∷ cs) = omega (arith, value_ge (n * 10 + digit_value c) cs)
 
-value_append : (n : ℕ) (xs ys : List ℕ) → digits_value_after 10 n (xs ++ ys) ≡ digits_value_after 10 (digits_value_after 10 n xs) ys
+pub value_append : (n : ℕ) (xs ys : List ℕ) → digits_value_after 10 n (xs ++ ys) ≡ digits_value_after 10 (digits_value_after 10 n xs) ys
 value_append n [] ys = refl
 value_append n (x ∷ xs) ys = value_append (n * 10 + digit_value x) xs ys
 
@@ -47,7 +47,7 @@ digits_after_is n [] h = grind (arith, nat_tests)
 digits_after_is n (c ∷ cs) h =
     step (is_ascii_digit c) (c - 48) (digit_value c) n cs (value_of_digit c) (λ below. digits_after_is (n * 10 + (c - 48)) cs below)
 
-numeral_is : (ds : List ℕ) → 0 < length ds → is_numeral ds ≡ all_ascii_digits ds
+pub numeral_is : (ds : List ℕ) → 0 < length ds → is_numeral ds ≡ all_ascii_digits ds
 numeral_is ds h = grind (arith, nat_tests)
 
 -- a magnitude past 2^64 makes no decimal, so the limit of the reader changes nothing

@@ -29,7 +29,7 @@ floor_remainder-negated a (negsuc b) r low e =
     flip r ∙ ap neg_ℤ rest ∙ floor_remainder-below a b
 
 -- a quotient is no farther from zero than its dividend
-div_le : (a u : ℕ) → 0 < u → a / u ≤ a
+pub div_le : (a u : ℕ) → 0 < u → a / u ≤ a
 div_le a u h = let w : a / u * 1 ≤ a / u * u = mul-le (a / u) 1 (a / u) u (omega arith) h in omega (arith, div-add-mod' a u)
 
 pub quotient_below : (x : ℤ) (u : ℕ) → 0 < u → x ≤ℤ pos (2 ^ 63) → int_div_euclid x (pos u) ≤ℤ pos (2 ^ 63)

@@ -24,10 +24,10 @@ scales_swapped s t = omega arith
 pub times_swapped : (a b : Dec) → times a b ≡ times b a
 times_swapped a b = ap (λ m. limited m (a.1 + b.1)) (*ℤ_comm a.0 b.0) ∙ ap (limited (b.0 *ℤ a.0)) (scales_swapped a.1 b.1)
 
-rest_of_scale : (s k : ℕ) → s ≤ k → k - s + s ≡ k
+pub rest_of_scale : (s k : ℕ) → s ≤ k → k - s + s ≡ k
 rest_of_scale s k h = omega arith
 
-negated_times : (n q : ℕ) → neg_ℤ (pos n) *ℤ pos q ≡ neg_ℤ (pos (n * q))
+pub negated_times : (n q : ℕ) → neg_ℤ (pos n) *ℤ pos q ≡ neg_ℤ (pos (n * q))
 negated_times zero q = rw (zero-mul q) refl
 negated_times (suc n) q = refl
 

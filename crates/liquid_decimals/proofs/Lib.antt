@@ -1,7 +1,9 @@
 pub mod Digits
 pub mod FloorLemmas
 pub mod LawProofs
+pub mod MinorLaw
 pub mod Nearest
 pub mod DigitsRead
+pub mod RoundTrip
 pub mod Shared
 pub mod Tens

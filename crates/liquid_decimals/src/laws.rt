@@ -1,8 +1,10 @@
 //! Consequences of what decimals mean, a function for each. Its body is empty, and its contract is the law.
-ghost use Rattle.std.specs.Prelude.{◌≡◌, ◌≤◌, ◌<◌, ◌+◌, ◌*◌, IfSome};
+ghost use Rattle.std.specs.Prelude.{◌≡◌, ◌≤◌, ◌<◌, ◌+◌, ◌*◌, Some, false, IfSome};
 ghost use Rattle.liquid_decimals.specs.meaning.Arithmetic.{mantissa_at, minus, plus, shared_scale, times};
 ghost use Rattle.liquid_decimals.specs.meaning.Dec.{SameValue, dec, limited};
-ghost use Rattle.liquid_decimals.specs.meaning.Rounding.{nearest};
+ghost use Rattle.liquid_decimals.specs.meaning.Rounding.{loses_digits, nearest, round};
+ghost use Rattle.liquid_decimals.specs.meaning.Text.{decimal_of_text};
+ghost use Rattle.liquid_decimals.specs.meaning.Written.{written};
 
 use crate::decimal::Decimal;
 
@@ -30,4 +32,14 @@ pub fn minus_undoes_plus(a: Decimal, b: Decimal)
 pub fn rounding_is_to_the_nearest(dividend: u64, divisor: u64)
     ensures below { 0 < divisor → 2 * (nearest dividend divisor * divisor) ≤ 2 * dividend + divisor }
     ensures above { 0 < divisor → 2 * dividend + divisor < 2 * (nearest dividend divisor * divisor) + 2 * divisor }
+{}
+
+/// What is written is read: the text of a decimal writes that decimal.
+pub fn written_is_read(decimal: Decimal)
+    ensures { decimal_of_text (written (dec decimal)) ≡ Some (dec decimal) }
+{}
+
+/// A decimal that loses no digit with fewer digits after the point is the same number with them, if it is within its limits.
+pub fn no_digit_is_lost(decimal: Decimal, scale: u32)
+    ensures { loses_digits scale (dec decimal) ≡ false → IfSome (round scale (dec decimal)) (λ r. SameValue r (dec decimal)) }
 {}

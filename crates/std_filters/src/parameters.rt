@@ -67,6 +67,43 @@ pub(crate) static NUMBER: [ParameterReflection; 1] = [ParameterReflection {
     is_optional: false,
 }];
 
+pub(crate) static DIVISOR: [ParameterReflection; 2] = [
+    ParameterReflection {
+        name: "number",
+        description: "The other number.",
+        is_optional: false,
+    },
+    ParameterReflection {
+        name: "digits",
+        description: "How many digits the quotient has after the point.",
+        is_optional: true,
+    },
+];
+
+pub(crate) static DECIMAL: [ParameterReflection; 3] = [
+    ParameterReflection {
+        name: "digits",
+        description: "How many digits are written after the point.",
+        is_optional: false,
+    },
+    ParameterReflection {
+        name: "point",
+        description: "What is put before those digits, or a point.",
+        is_optional: true,
+    },
+    ParameterReflection {
+        name: "group",
+        description: "What is put between each three digits before the point, or nothing.",
+        is_optional: true,
+    },
+];
+
+pub(crate) static UNIT: [ParameterReflection; 1] = [ParameterReflection {
+    name: "digits",
+    description: "How many digits the larger unit has after the point.",
+    is_optional: false,
+}];
+
 pub(crate) static DIGITS: [ParameterReflection; 1] = [ParameterReflection {
     name: "digits",
     description: "How many digits are kept after the point: -2 gives hundreds.",

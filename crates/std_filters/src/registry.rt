@@ -17,7 +17,7 @@ use liquid_plugins::PluginRegistry;
 use std::alloc::{AllocError, Global};
 
 /// All standard filters except `date`.
-const TIMELESS_KINDS: [StdKind; 53] = [
+const TIMELESS_KINDS: [StdKind; 56] = [
     StdKind::Texts(TextKind::Append),
     StdKind::Texts(TextKind::Base64Decode),
     StdKind::Texts(TextKind::Base64Encode),
@@ -61,13 +61,16 @@ const TIMELESS_KINDS: [StdKind; 53] = [
     StdKind::Numbers(NumberKind::AtLeast),
     StdKind::Numbers(NumberKind::AtMost),
     StdKind::Numbers(NumberKind::Ceil),
+    StdKind::Numbers(NumberKind::Decimal),
     StdKind::Numbers(NumberKind::DividedBy),
     StdKind::Numbers(NumberKind::Floor),
+    StdKind::Numbers(NumberKind::FromMinor),
     StdKind::Numbers(NumberKind::Minus),
     StdKind::Numbers(NumberKind::Modulo),
     StdKind::Numbers(NumberKind::Plus),
     StdKind::Numbers(NumberKind::Round),
     StdKind::Numbers(NumberKind::Times),
+    StdKind::Numbers(NumberKind::ToMinor),
     StdKind::Values(ValueKind::Default),
     StdKind::Values(ValueKind::Json),
     StdKind::Values(ValueKind::Size),

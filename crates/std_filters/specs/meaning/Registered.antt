@@ -42,9 +42,10 @@ timeless_kinds =
     ∷ std.Lists lists.Concat ∷ std.Lists lists.First ∷ std.Lists lists.Join ∷ std.Lists lists.Last
     ∷ std.Lists lists.Map ∷ std.Lists lists.Reverse ∷ std.Lists lists.Sort ∷ std.Lists lists.SortNatural
     ∷ std.Lists lists.Sum ∷ std.Lists lists.Uniq ∷ std.Lists lists.Where ∷ std.Numbers numbers.Abs
-    ∷ std.Numbers numbers.AtLeast ∷ std.Numbers numbers.AtMost ∷ std.Numbers numbers.Ceil ∷ std.Numbers numbers.DividedBy
-    ∷ std.Numbers numbers.Floor ∷ std.Numbers numbers.Minus ∷ std.Numbers numbers.Modulo ∷ std.Numbers numbers.Plus
-    ∷ std.Numbers numbers.Round ∷ std.Numbers numbers.Times ∷ std.Values values.Default ∷ std.Values values.Json
+    ∷ std.Numbers numbers.AtLeast ∷ std.Numbers numbers.AtMost ∷ std.Numbers numbers.Ceil ∷ std.Numbers numbers.Decimal
+    ∷ std.Numbers numbers.DividedBy ∷ std.Numbers numbers.Floor ∷ std.Numbers numbers.FromMinor ∷ std.Numbers numbers.Minus
+    ∷ std.Numbers numbers.Modulo ∷ std.Numbers numbers.Plus ∷ std.Numbers numbers.Round ∷ std.Numbers numbers.Times
+    ∷ std.Numbers numbers.ToMinor ∷ std.Values values.Default ∷ std.Values values.Json
     ∷ std.Values values.Size ∷ []
 
 -- `date`, for which `now` and `today` are this moment, if there is one

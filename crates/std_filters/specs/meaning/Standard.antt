@@ -16,6 +16,7 @@ use Rattle.std_lists.specs.meaning.Lists as listed
 use Rattle.std_order.specs.meaning.Order as order
 use Rattle.std_lists.specs.meaning.Sums as sums
 use Rattle.std_numbers.specs.meaning.Filters as number
+use Rattle.std_numbers.specs.meaning.Units as units
 use Rattle.std_filters.specs.declared.date_kind.DateKind.{DateKind}
 use Rattle.std_filters.specs.declared.kinds.StdKind.{StdKind}
 use Rattle.std_filters.specs.declared.kinds.StdKind.TheVariants as std
@@ -48,6 +49,9 @@ two = false ∷ false ∷ []
 
 abbrev pub one_or_two : List Bool
 one_or_two = false ∷ true ∷ []
+
+abbrev pub one_to_three : List Bool
+one_to_three = false ∷ true ∷ true ∷ []
 
 abbrev pub at_most_two : List Bool
 at_most_two = true ∷ true ∷ []
@@ -110,14 +114,17 @@ abbrev pub number_sense : NumberKind → FilterSense
 number_sense numbers.Abs = alone (codes "abs") number.abs
 number_sense numbers.AtLeast = placed (codes "at_least") one number.at_least
 number_sense numbers.AtMost = placed (codes "at_most") one number.at_most
-number_sense numbers.Ceil = alone (codes "ceil") number.whole_number
-number_sense numbers.DividedBy = placed (codes "divided_by") one number.divided_by
-number_sense numbers.Floor = alone (codes "floor") number.whole_number
+number_sense numbers.Ceil = alone (codes "ceil") number.ceil
+number_sense numbers.Decimal = placed (codes "decimal") one_to_three units.written_decimal
+number_sense numbers.DividedBy = placed (codes "divided_by") one_or_two number.divided_by
+number_sense numbers.Floor = alone (codes "floor") number.floor
+number_sense numbers.FromMinor = placed (codes "from_minor") one units.from_minor
 number_sense numbers.Minus = placed (codes "minus") one number.minus
 number_sense numbers.Modulo = placed (codes "modulo") one number.modulo
 number_sense numbers.Plus = placed (codes "plus") one number.plus
 number_sense numbers.Round = placed (codes "round") one_or_none number.round
 number_sense numbers.Times = placed (codes "times") one number.times
+number_sense numbers.ToMinor = placed (codes "to_minor") one units.to_minor
 
 -- the filters on any value
 abbrev pub value_sense : ValueKind → FilterSense

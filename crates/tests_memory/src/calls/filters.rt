@@ -49,17 +49,20 @@ sort_natural | ["b", "A", "c"] | [] | Abc|
 sum | [1, 2, 1] | [] | 4|
 uniq | [1, 2, 1] | [] | 12|
 where | [{"t": 1}, {"t": 2}] | ["t", 2] | t2|
-abs | -7 | [] | 7|
+abs | "-7.50" | [] | 7.50|
 at_least | 3 | [5] | 5|
 at_most | 3 | [5] | 3|
 ceil | 3 | [] | 3|
+decimal | "1234.5" | [2, ",", "."] | 1.234,50|
 divided_by | -7 | [2] | -4|
 floor | 3 | [] | 3|
+from_minor | 1250 | [2] | 12.50|
 minus | 41 | [1] | 40|
 modulo | -7 | [2] | 1|
-plus | 41 | [1] | 42|
+plus | "12.50" | [1] | 13.50|
 round | 1250 | [-2] | 1300|
 times | 6 | [7] | 42|
+to_minor | "12.50" | [2] | 1250|
 default | null | ["nobody"] | nobody|
 json | {"a": [1, "b"]} | [] | {"a":[1,"b"]}|
 size | "straße" | [] | 6|
