@@ -9,6 +9,7 @@ use liquid_value::Value;
 use std::alloc::Global;
 use std_lists::choices::{compact, keep_where, map, uniq};
 use std_lists::lists::{concat, first, join, last, reverse};
+use std_lists::searches::{find, find_index, has, reject};
 use std_lists::sums::sum;
 use std_order::order::{sort, sort_natural};
 
@@ -17,10 +18,14 @@ use std_order::order::{sort, sort_natural};
 pub enum ListKind {
     Compact,
     Concat,
+    Find,
+    FindIndex,
     First,
+    Has,
     Join,
     Last,
     Map,
+    Reject,
     Reverse,
     Sort,
     SortNatural,
@@ -44,7 +49,18 @@ impl FilterKind for ListKind {
                 "The items, and those of an array.",
                 &ARRAY,
             ),
+            ListKind::Find => FilterRow::new("find", "The first item with a property.", &WHERE),
+            ListKind::FindIndex => FilterRow::new(
+                "find_index",
+                "The index of the first item with a property.",
+                &WHERE,
+            ),
             ListKind::First => FilterRow::new("first", "The first item.", &NONE),
+            ListKind::Has => FilterRow::new(
+                "has",
+                "Whether there is an item with a property.",
+                &WHERE,
+            ),
             ListKind::Join => FilterRow::new(
                 "join",
                 "The texts of the items in a row.",
@@ -52,6 +68,7 @@ impl FilterKind for ListKind {
             ),
             ListKind::Last => FilterRow::new("last", "The last item.", &NONE),
             ListKind::Map => FilterRow::new("map", "A property of each item.", &NAME),
+            ListKind::Reject => FilterRow::new("reject", "The items without a property.", &WHERE),
             ListKind::Reverse => FilterRow::new("reverse", "The items from last to first.", &NONE),
             ListKind::Sort => FilterRow::new("sort", "The items in order.", &PROPERTY),
             ListKind::SortNatural => FilterRow::new(
@@ -75,10 +92,14 @@ impl FilterKind for ListKind {
         match self {
             ListKind::Compact => compact(alloc, input, given),
             ListKind::Concat => concat(alloc, input, given),
+            ListKind::Find => find(alloc, input, given),
+            ListKind::FindIndex => find_index(alloc, input, given),
             ListKind::First => first(alloc, input),
+            ListKind::Has => has(alloc, input, given),
             ListKind::Join => join(alloc, input, given),
             ListKind::Last => last(alloc, input),
             ListKind::Map => map(alloc, input, given),
+            ListKind::Reject => reject(alloc, input, given),
             ListKind::Reverse => reverse(alloc, input),
             ListKind::Sort => sort(alloc, input, given),
             ListKind::SortNatural => sort_natural(alloc, input, given),

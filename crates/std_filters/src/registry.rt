@@ -17,14 +17,17 @@ use liquid_plugins::PluginRegistry;
 use std::alloc::{AllocError, Global};
 
 /// All standard filters except `date`.
-const TIMELESS_KINDS: [StdKind; 56] = [
+const TIMELESS_KINDS: [StdKind; 63] = [
     StdKind::Texts(TextKind::Append),
     StdKind::Texts(TextKind::Base64Decode),
     StdKind::Texts(TextKind::Base64Encode),
+    StdKind::Texts(TextKind::Base64UrlSafeDecode),
+    StdKind::Texts(TextKind::Base64UrlSafeEncode),
     StdKind::Texts(TextKind::Capitalize),
     StdKind::Texts(TextKind::Downcase),
     StdKind::Texts(TextKind::Escape),
     StdKind::Texts(TextKind::EscapeOnce),
+    StdKind::Texts(TextKind::H),
     StdKind::Texts(TextKind::Lstrip),
     StdKind::Texts(TextKind::NewlineToBr),
     StdKind::Texts(TextKind::Prepend),
@@ -47,10 +50,14 @@ const TIMELESS_KINDS: [StdKind; 56] = [
     StdKind::Texts(TextKind::UrlEncode),
     StdKind::Lists(ListKind::Compact),
     StdKind::Lists(ListKind::Concat),
+    StdKind::Lists(ListKind::Find),
+    StdKind::Lists(ListKind::FindIndex),
     StdKind::Lists(ListKind::First),
+    StdKind::Lists(ListKind::Has),
     StdKind::Lists(ListKind::Join),
     StdKind::Lists(ListKind::Last),
     StdKind::Lists(ListKind::Map),
+    StdKind::Lists(ListKind::Reject),
     StdKind::Lists(ListKind::Reverse),
     StdKind::Lists(ListKind::Sort),
     StdKind::Lists(ListKind::SortNatural),

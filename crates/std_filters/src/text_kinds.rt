@@ -8,10 +8,10 @@ use liquid_error::Error;
 use liquid_value::Value;
 use std::alloc::Global;
 use std_texts::{
-    append, base64_decode, base64_encode, capitalize, downcase, escape, escape_once, lstrip,
-    newline_to_br, prepend, remove, remove_first, remove_last, replace, replace_first,
-    replace_last, rstrip, slice, split, strip, strip_html, strip_newlines, truncate, truncatewords,
-    upcase, url_decode, url_encode,
+    append, base64_decode, base64_encode, base64_url_safe_decode, base64_url_safe_encode,
+    capitalize, downcase, escape, escape_once, lstrip, newline_to_br, prepend, remove,
+    remove_first, remove_last, replace, replace_first, replace_last, rstrip, slice, split, strip,
+    strip_html, strip_newlines, truncate, truncatewords, upcase, url_decode, url_encode,
 };
 
 /// A filter on texts.
@@ -20,10 +20,13 @@ pub enum TextKind {
     Append,
     Base64Decode,
     Base64Encode,
+    Base64UrlSafeDecode,
+    Base64UrlSafeEncode,
     Capitalize,
     Downcase,
     Escape,
     EscapeOnce,
+    H,
     Lstrip,
     NewlineToBr,
     Prepend,
@@ -62,6 +65,16 @@ impl FilterKind for TextKind {
                 &NONE,
             ),
             TextKind::Base64Encode => FilterRow::new("base64_encode", "The text in base64.", &NONE),
+            TextKind::Base64UrlSafeDecode => FilterRow::new(
+                "base64_url_safe_decode",
+                "The text that is written in base64 for a URL.",
+                &NONE,
+            ),
+            TextKind::Base64UrlSafeEncode => FilterRow::new(
+                "base64_url_safe_encode",
+                "The text in base64 for a URL.",
+                &NONE,
+            ),
             TextKind::Capitalize => FilterRow::new(
                 "capitalize",
                 "Its first character in upper case.",
@@ -74,6 +87,7 @@ impl FilterKind for TextKind {
                 "The same, but entities stay.",
                 &NONE,
             ),
+            TextKind::H => FilterRow::new("h", "The text for HTML.", &NONE),
             TextKind::Lstrip => FilterRow::new(
                 "lstrip",
                 "Without white space at the start.",
@@ -160,9 +174,11 @@ impl FilterKind for TextKind {
             TextKind::Append => append(alloc, input, given),
             TextKind::Base64Decode => base64_decode(alloc, input),
             TextKind::Base64Encode => base64_encode(alloc, input),
+            TextKind::Base64UrlSafeDecode => base64_url_safe_decode(alloc, input),
+            TextKind::Base64UrlSafeEncode => base64_url_safe_encode(alloc, input),
             TextKind::Capitalize => capitalize(alloc, input),
             TextKind::Downcase => downcase(alloc, input),
-            TextKind::Escape => escape(alloc, input),
+            TextKind::Escape | TextKind::H => escape(alloc, input),
             TextKind::EscapeOnce => escape_once(alloc, input),
             TextKind::Lstrip => lstrip(alloc, input),
             TextKind::NewlineToBr => newline_to_br(alloc, input),

@@ -1,5 +1,5 @@
 -- Items of an array as trees, and parts of them.
-use Rattle.std.proofs.Common.{◌≡◌, ℕ, ℤ, List, [], ◌∷◌, Option, None, Some, map, length, take, drop, refl, sym, ap, ◌∙◌}
+use Rattle.std.proofs.Common.{◌≡◌, ℕ, ℤ, List, [], ◌∷◌, Option, None, Some, map, length, take, drop, refl, ap, ◌∙◌}
 use Rattle.std.specs.List.{take-map, drop-map, AllZip}
 use Rattle.std.proofs.lemmas.List.{length-map}
 use Rattle.liquid_value.specs.declared.value.Value.{Value}

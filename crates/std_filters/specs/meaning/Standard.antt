@@ -14,6 +14,7 @@ use Rattle.std_texts.specs.meaning.Splitting as text_splitting
 use Rattle.std_lists.specs.meaning.Choices as choice
 use Rattle.std_lists.specs.meaning.Lists as listed
 use Rattle.std_order.specs.meaning.Order as order
+use Rattle.std_lists.specs.meaning.Searches as searching
 use Rattle.std_lists.specs.meaning.Sums as sums
 use Rattle.std_numbers.specs.meaning.Filters as number
 use Rattle.std_numbers.specs.meaning.Units as units
@@ -69,10 +70,14 @@ abbrev pub text_sense : TextKind → FilterSense
 text_sense texts.Append = placed (codes "append") one text_joints.appended
 text_sense texts.Base64Decode = alone (codes "base64_decode") text_encoding.base64_decoded
 text_sense texts.Base64Encode = alone (codes "base64_encode") (λ input. Ok (text_encoding.base64_encoded input))
+text_sense texts.Base64UrlSafeDecode = alone (codes "base64_url_safe_decode") text_encoding.base64_url_safe_decoded
+text_sense texts.Base64UrlSafeEncode =
+    alone (codes "base64_url_safe_encode") (λ input. Ok (text_encoding.base64_url_safe_encoded input))
 text_sense texts.Capitalize = alone (codes "capitalize") (λ input. Ok (text_letters.capitalized input))
 text_sense texts.Downcase = alone (codes "downcase") (λ input. Ok (text_letters.downcased input))
 text_sense texts.Escape = alone (codes "escape") (λ input. Ok (text_html.html_escaped input))
 text_sense texts.EscapeOnce = alone (codes "escape_once") (λ input. Ok (text_html.html_escaped_once input))
+text_sense texts.H = alone (codes "h") (λ input. Ok (text_html.html_escaped input))
 text_sense texts.Lstrip = alone (codes "lstrip") (λ input. Ok (text_ends.left_stripped input))
 text_sense texts.NewlineToBr = alone (codes "newline_to_br") (λ input. Ok (text_lines.marked_lines input))
 text_sense texts.Prepend = placed (codes "prepend") one text_joints.prepended
@@ -98,10 +103,14 @@ text_sense texts.UrlEncode = alone (codes "url_encode") (λ input. Ok (text_enco
 abbrev pub list_sense : ListKind → FilterSense
 list_sense lists.Compact = placed (codes "compact") one_or_none choice.compacted
 list_sense lists.Concat = placed (codes "concat") one listed.concat
+list_sense lists.Find = placed (codes "find") one_or_two searching.found
+list_sense lists.FindIndex = placed (codes "find_index") one_or_two searching.found_index
 list_sense lists.First = alone (codes "first") (λ input. Ok (listed.first input))
+list_sense lists.Has = placed (codes "has") one_or_two searching.has_any
 list_sense lists.Join = placed (codes "join") one_or_none listed.join
 list_sense lists.Last = alone (codes "last") (λ input. Ok (listed.last input))
 list_sense lists.Map = placed (codes "map") one choice.mapped
+list_sense lists.Reject = placed (codes "reject") one_or_two searching.rejected
 list_sense lists.Reverse = alone (codes "reverse") (λ input. Ok (listed.reversed input))
 list_sense lists.Sort = placed (codes "sort") one_or_none order.sorted
 list_sense lists.SortNatural = placed (codes "sort_natural") one_or_none order.sorted_naturally

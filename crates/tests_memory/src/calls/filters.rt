@@ -12,10 +12,13 @@ use std_filters::{CallArguments, FilterKind, StdKind, filters};
 static ROWS: &str = r#"append | "rain" | ["bow"] | rainbow|
 base64_decode | "cmFpbg==" | [] | rain|
 base64_encode | "rain" | [] | cmFpbg==|
+base64_url_safe_decode | "fn5-" | [] | ~~~|
+base64_url_safe_encode | "~~~" | [] | fn5-|
 capitalize | "rAIN fell" | [] | Rain fell|
 downcase | "RAIN" | [] | rain|
 escape | "a < b" | [] | a &lt; b|
 escape_once | "&lt; & >" | [] | &lt; &amp; &gt;|
+h | "a < b" | [] | a &lt; b|
 lstrip | " rain " | [] | rain |
 newline_to_br | "rain\nwind" | [] | rain<br />
 wind|
@@ -39,10 +42,14 @@ url_decode | "rain+%26+wind" | [] | rain & wind|
 url_encode | "rain & wind" | [] | rain+%26+wind|
 compact | [1, null, 2] | [] | 12|
 concat | [1, 2] | [[3]] | 123|
+find | [{"t": 1}, {"t": 2}] | ["t", 2] | t2|
+find_index | [{"t": 1}, {"t": 2}] | ["t", 2] | 1|
 first | ["Mon", "Tue"] | [] | Mon|
+has | [{"t": 1}, {"t": 2}] | ["t", 2] | true|
 join | ["Mon", "Tue"] | [", "] | Mon, Tue|
 last | ["Mon", "Tue"] | [] | Tue|
 map | [{"t": "Rain"}, {"t": "Wind"}] | ["t"] | RainWind|
+reject | [{"t": 1}, {"t": 2}] | ["t", 2] | t1|
 reverse | [1, 2, 3] | [] | 321|
 sort | ["b", "a"] | [] | ab|
 sort_natural | ["b", "A", "c"] | [] | Abc|
@@ -66,7 +73,7 @@ to_minor | "12.50" | [2] | 1250|
 default | null | ["nobody"] | nobody|
 json | {"a": [1, "b"]} | [] | {"a":[1,"b"]}|
 size | "straße" | [] | 6|
-date | "2026-11-27" | ["%d %B %Y"] | 27 November 2026|
+date | "November 27, 2026" | ["%d %B %Y"] | 27 November 2026|
 "#;
 
 /// A filter, its input, its arguments, and the text of what it returns.

@@ -6,6 +6,7 @@ use std::alloc::Global;
 use std::test::Fail;
 use std_lists::choices::{compact, keep_where, map, uniq};
 use std_lists::lists::{concat, first, join, last, reverse};
+use std_lists::searches::{find, find_index, has, reject};
 use std_lists::sums::sum;
 use tests_lines::{Line, rows_hold};
 
@@ -27,6 +28,20 @@ const ROWS: &str = r#"["first", [[1], 2], [], "[1, ]"]
 ["compact", [{"k": 1}, {"n": 2}], ["k"], "[k1, ]"]
 ["where", [{"k": 1}, {"k": false}, {"k": 2}], ["k"], "[k1, k2, ]"]
 ["where", [{"k": 1}, {"k": "1"}], ["k", 1], "[k1, ]"]
+["find", [{"k": 1}, {"k": 2, "n": 3}, {"k": 2}], ["k", 2], "{\"k\": 2, \"n\": 3, }"]
+["find", [{"k": false}, {"n": 1}, {"k": 2}], ["k"], "{\"k\": 2, }"]
+["find", [{"k": 1}, {"k": 2}], ["k", "2"], "nil"]
+["find", [], ["k", 1], "nil"]
+["find", [{"k": 1}, 5], ["k", 1], "liquid: Object expected\n  with:\n    property=k\n    found=5\n"]
+["find_index", [{"k": 1}, {"k": 2}, {"k": 2}], ["k", 2], "1"]
+["find_index", [{"k": 1}, {"k": null}], ["k"], "0"]
+["find_index", [{"k": 1}], ["k", 7], "nil"]
+["has", [{"k": 1}, {"k": 2}], ["k", 2], "true"]
+["has", [{"k": false}, {"n": 1}], ["k"], "false"]
+["has", [], ["k"], "false"]
+["has", [{"k": 1}], [], "liquid: Unexpected arguments\n"]
+["reject", [{"k": 1}, {"k": false}, {"k": 2}, {"n": 3}], ["k"], "[kfalse, n3, ]"]
+["reject", [{"k": 1}, {"k": 2}, [{"k": 1}, {"k": 3}]], ["k", 1], "[k2, k3, ]"]
 ["uniq", [1, true, "1", 1, null, null], [], "[1, true, 1, , ]"]
 ["uniq", [{"k": 1, "n": 1}, {"k": 1, "n": 2}, {"k": 2, "n": 3}], ["k"], "[k1n1, k2n3, ]"]
 ["sum", [" 3 ", 7, null, [-1]], [], "9"]
@@ -51,6 +66,10 @@ fn answered(
         "compact" => compact(alloc, input, arguments),
         "where" => keep_where(alloc, input, arguments),
         "uniq" => uniq(alloc, input, arguments),
+        "find" => find(alloc, input, arguments),
+        "find_index" => find_index(alloc, input, arguments),
+        "has" => has(alloc, input, arguments),
+        "reject" => reject(alloc, input, arguments),
         "sum" => sum(alloc, input, arguments),
         _ => Ok(Value::Nil),
     }

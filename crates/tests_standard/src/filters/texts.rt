@@ -5,7 +5,7 @@ use liquid_value::{Value, ValueCow};
 use std::alloc::Global;
 use std::test::Fail;
 use std_texts::{
-    append, base64_decode, base64_encode, capitalize, downcase, escape, escape_once, lstrip,
+    append, base64_decode, base64_encode, base64_url_safe_decode, base64_url_safe_encode, capitalize, downcase, escape, escape_once, lstrip,
     newline_to_br, prepend, remove, remove_first, remove_last, replace, replace_first,
     replace_last, rstrip, slice, split, strip, strip_html, strip_newlines, truncate, truncatewords,
     upcase, url_decode, url_encode,
@@ -26,6 +26,8 @@ const ROWS: &str = r#"["append", "  abc  ", ["o"], "\"  abc  o\""]
 ["newline_to_br", "a\r\nb", [], "\"a<br />\nb\""]
 ["escape", "&a;'", [], "\"&amp;a;&#39;\""]
 ["escape_once", "&é;&a;&#39&#39;<", [], "\"&amp;é;&a;&amp;#39&#39;&lt;\""]
+["escape", null, [], "nil"]
+["escape_once", null, [], "\"\""]
 ["strip_html", "<script>if (a<b) {}</script>!", [], "\"!\""]
 ["strip_html", "a<br/>b<br>c", [], "\"abc\""]
 ["replace", "abab", ["", "-"], "\"-a-b-a-b-\""]
@@ -48,11 +50,18 @@ const ROWS: &str = r#"["append", "  abc  ", ["o"], "\"  abc  o\""]
 ["slice", "abc", ["-2"], "\"b\""]
 ["slice", "abc", ["-4"], "\"\""]
 ["url_encode", "\n,xa*+ ~", [], "\"%0A%2Cxa%2A%2B+~\""]
+["url_encode", "\u0000\u0001\u0002\u0003\u0004\u0005\u0006\u0007\b\t\n\u000b\f\r\u000e\u000f\u0010\u0011\u0012\u0013\u0014\u0015\u0016\u0017\u0018\u0019\u001a\u001b\u001c\u001d\u001e\u001f", [], "\"%00%01%02%03%04%05%06%07%08%09%0A%0B%0C%0D%0E%0F%10%11%12%13%14%15%16%17%18%19%1A%1B%1C%1D%1E%1F\""]
+["url_encode", " !\"\u0023$%&'()*+,-./0123456789:;<=>?", [], "\"+%21%22%23%24%25%26%27%28%29%2A%2B%2C-.%2F0123456789%3A%3B%3C%3D%3E%3F\""]
+["url_encode", "@ABCDEFGHIJKLMNOPQRSTUVWXYZ[\\]^_`abcdefghijklmnopqrstuvwxyz{|}~\u007f", [], "\"%40ABCDEFGHIJKLMNOPQRSTUVWXYZ%5B%5C%5D%5E_%60abcdefghijklmnopqrstuvwxyz%7B%7C%7D~%7F\""]
 ["url_decode", "%c3%a9+%&", [], "\"é %&\""]
 ["url_decode", "%c3", [], "liquid: Decoded bytes are no text\n"]
 ["base64_encode", "\r\n", [], "\"DQo=\""]
 ["base64_decode", "YWI=", [], "\"ab\""]
-["base64_decode", "YWJ=", [], "liquid: Invalid base64\n"]"#;
+["base64_decode", "YWJ=", [], "liquid: Invalid base64\n"]
+["base64_url_safe_encode", "~~~???é", [], "\"fn5-Pz8_w6k=\""]
+["base64_url_safe_decode", "fn5-Pz8_w6k=", [], "\"~~~???é\""]
+["base64_url_safe_decode", "fn5+Pz8/w6k=", [], "liquid: Invalid base64\n"]
+["base64_url_safe_decode", "_w==", [], "liquid: Decoded bytes are no text\n"]"#;
 
 /// Returns the result of a filter without arguments.
 fn answered_alone(alloc: Global, filter: &str, input: &Value) -> Result<Value, Error> {
@@ -72,6 +81,8 @@ fn answered_alone(alloc: Global, filter: &str, input: &Value) -> Result<Value, E
         "url_decode" => url_decode(alloc, input),
         "base64_encode" => base64_encode(alloc, input),
         "base64_decode" => base64_decode(alloc, input),
+        "base64_url_safe_encode" => base64_url_safe_encode(alloc, input),
+        "base64_url_safe_decode" => base64_url_safe_decode(alloc, input),
         _ => Ok(Value::Nil),
     }
 }
