@@ -1,4 +1,5 @@
 pub mod CommandWords
+pub mod HelpWords
 pub mod MemoryLemmas
 pub mod GatheredLemmas
 pub mod FolderLemmas
