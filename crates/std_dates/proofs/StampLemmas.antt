@@ -207,5 +207,7 @@ no_weekday f = refl
 pub stamps_are_read : (f : Fields) → FitsStamp f → fields_of (stamp f) ≡ Some f
 stamps_are_read f h =
     ap (λ ws. fields_in (without_weekday ws)) (one_word (stamp f) (omega arith) (stamp_bytes f h)) ∙ ap fields_in (no_weekday f)
-    ∙ rw (day_read f.day h.year h.month h.day,
-    time_read f.clock f.offset h.hour h.minute h.second h.nanosecond h.hours h.minutes) refl
+    ∙ rw (
+      day_read f.day h.year h.month h.day,
+      time_read f.clock f.offset h.hour h.minute h.second h.nanosecond h.hours h.minutes,
+    ) refl
