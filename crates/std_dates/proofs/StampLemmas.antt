@@ -1,44 +1,5 @@
 -- A stamp is read as the numbers that it was made of.
-use Rattle.std.proofs.Common.{
-  ◌≡◌,
-  ◌≢◌,
-  ℕ,
-  suc,
-  ◌+◌,
-  ◌-◌,
-  ◌*◌,
-  ◌/◌,
-  ◌%◌,
-  ◌<◌,
-  ◌≤◌,
-  ◌==◌,
-  true,
-  false,
-  List,
-  [],
-  ◌∷◌,
-  ◌++◌,
-  length,
-  map,
-  take,
-  drop,
-  refl,
-  sym,
-  ap,
-  ◌∙◌,
-  arith,
-  eqb,
-  nat_le,
-  ℤ,
-  pos,
-  negsuc,
-  neg_ℤ,
-  Option,
-  Some,
-  None,
-  IsAscii,
-  IsUtf8,
-}
+use Rattle.std.proofs.Common.{◌≡◌, ◌≢◌, ℕ, suc, ◌+◌, ◌*◌, ◌/◌, ◌%◌, ◌<◌, ◌≤◌, true, false, List, [], ◌∷◌, ◌++◌, length, map, refl, sym, ap, ◌∙◌, arith, eqb, nat_le, ℤ, pos, negsuc, neg_ℤ, Some, IsAscii}
 use Rattle.std.specs.Prelude.{unsigned_abs}
 use Rattle.std.specs.Char.{is_whitespace}
 use Rattle.std.specs.List.{All}
@@ -51,7 +12,6 @@ use Rattle.std.proofs.lemmas.Str.Ascii.{IsAscii-from_all}
 use Rattle.liquid_dates.specs.meaning.Flags.{is_digit}
 use Rattle.liquid_dates.specs.meaning.Names.{weekday_name}
 use Rattle.liquid_dates.specs.meaning.Printed as printed
-use Rattle.std_strings.specs.meaning.Replace.{replaced}
 use Rattle.std_strings.specs.meaning.Split.{words}
 use Rattle.std_strings.proofs.UrlLemmas.{swap, swapped}
 use Rattle.std_strings.proofs.WordLemmas.{is_one_word}
@@ -59,10 +19,10 @@ use Rattle.std_dates.specs.declared.fields.Clock.{Clock}
 use Rattle.std_dates.specs.declared.fields.Day.{Day}
 use Rattle.std_dates.specs.declared.fields.Fields.{Fields}
 use Rattle.std_dates.specs.laws.Stamps.{clock_stamp, day_stamp, offset_stamp, stamp, FitsStamp}
-use Rattle.std_dates.specs.meaning.ClockText.{clock_length, clock_of, offset_of, time_in_one, time_of}
+use Rattle.std_dates.specs.meaning.ClockText.{clock_length, clock_of, offset_of, time_in_one}
 use Rattle.std_dates.specs.meaning.DayText.{day_in_numbers}
 use Rattle.std_dates.specs.meaning.Digits.{four_digits, sixtieths, two_digits}
-use Rattle.std_dates.specs.meaning.MomentText.{fields_in, fields_of, in_numbers, moment_words, without_weekday}
+use Rattle.std_dates.specs.meaning.MomentText.{fields_in, fields_of, moment_words, without_weekday}
 
 -- numbers
 digit : (k : ℕ) → k < 10 → is_digit (48 + k) ≡ true
@@ -207,5 +167,7 @@ no_weekday f = refl
 pub stamps_are_read : (f : Fields) → FitsStamp f → fields_of (stamp f) ≡ Some f
 stamps_are_read f h =
     ap (λ ws. fields_in (without_weekday ws)) (one_word (stamp f) (omega arith) (stamp_bytes f h)) ∙ ap fields_in (no_weekday f)
-    ∙ rw (day_read f.day h.year h.month h.day,
-    time_read f.clock f.offset h.hour h.minute h.second h.nanosecond h.hours h.minutes) refl
+    ∙ rw (
+      day_read f.day h.year h.month h.day,
+      time_read f.clock f.offset h.hour h.minute h.second h.nanosecond h.hours h.minutes,
+    ) refl

@@ -5,10 +5,10 @@ use liquid_value::{Value, ValueCow};
 use std::alloc::Global;
 use std::test::Fail;
 use std_texts::{
-    append, base64_decode, base64_encode, base64_url_safe_decode, base64_url_safe_encode, capitalize, downcase, escape, escape_once, lstrip,
-    newline_to_br, prepend, remove, remove_first, remove_last, replace, replace_first,
-    replace_last, rstrip, slice, split, strip, strip_html, strip_newlines, truncate, truncatewords,
-    upcase, url_decode, url_encode,
+    append, base64_decode, base64_encode, base64_url_safe_decode, base64_url_safe_encode,
+    capitalize, downcase, escape, escape_once, lstrip, newline_to_br, prepend, remove,
+    remove_first, remove_last, replace, replace_first, replace_last, rstrip, slice, split, strip,
+    strip_html, strip_newlines, truncate, truncatewords, upcase, url_decode, url_encode,
 };
 use tests_lines::{Line, rows_hold};
 

@@ -1,6 +1,5 @@
 use Rattle.std.proofs.Common.{◌≡◌, drop, map}
 use Rattle.std.specs.List.{list_any}
-use Rattle.std_lists.specs.meaning.Searches.{passing}
 use Rattle.std_lists.specs.meaning.Tests.{tested_view}
 use Rattle.std_lists.proofs.searches.any_passes.Given as goal
 
