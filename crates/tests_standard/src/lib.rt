@@ -27,3 +27,5 @@ mod sites;
 mod sources;
 #[cfg(test)]
 mod tag_rows;
+#[cfg(test)]
+mod text_tag_rows;

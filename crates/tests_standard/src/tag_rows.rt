@@ -10,7 +10,7 @@ use std::test::Fail;
 use tests_lines::{Line, holds, rows_hold};
 
 /// Returns the globals of a text of JSON.
-fn globals_of(alloc: Global, globals: &str) -> Result<Object, Error> {
+pub(crate) fn globals_of(alloc: Global, globals: &str) -> Result<Object, Error> {
     match object_from_str(alloc, globals) {
         Ok(globals) => globals,
         Err(_) => Err(Error::with_msg(alloc, "no globals")),

@@ -1,0 +1,3 @@
+pub mod Sense
+pub mod Nodes
+pub mod Tags
