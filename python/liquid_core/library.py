@@ -62,11 +62,13 @@ def _load() -> ctypes.CDLL:
         raise ImportError(f"the library can't be loaded: {error}. {how}") from error
     if not hasattr(library, "liquid_render_within") or library.liquid_version() != _VERSION:
         raise ImportError(f"{path} is of another version than this package")
-    memory = [ctypes.c_char_p, ctypes.c_size_t, ctypes.c_char_p, ctypes.c_size_t, ctypes.POINTER(_Outcome)]
+    memory: list[Any] = [ctypes.c_char_p, ctypes.c_size_t, ctypes.c_char_p, ctypes.c_size_t, ctypes.POINTER(_Outcome)]
     many = [ctypes.POINTER(_Bytes), ctypes.c_size_t, *memory, ctypes.c_size_t]
-    one, each = library.liquid_render_within, library.liquid_render_each_within
-    one.argtypes, one.restype = [ctypes.POINTER(_Page), ctypes.c_size_t, *memory], None
-    each.argtypes, each.restype = [ctypes.POINTER(_Page), ctypes.c_size_t, *many], ctypes.c_size_t
+    limits: list[tuple[str, list[Any]]] = [("", []), ("_within", [ctypes.c_size_t])]
+    for name, limit in limits:
+        one, each = getattr(library, f"liquid_render{name}"), getattr(library, f"liquid_render_each{name}")
+        one.argtypes, one.restype = [ctypes.POINTER(_Page), *limit, *memory], None
+        each.argtypes, each.restype = [ctypes.POINTER(_Page), *limit, *many], ctypes.c_size_t
     library.liquid_proved.argtypes, library.liquid_proved.restype = [], ctypes.c_uint32
     return library
 
@@ -111,8 +113,8 @@ class Source:
         self.options = options
         self.longest = 0
         self._template = _encoded(template)
-        self._partials = {it: _encoded(text) for it, text in partials.items()}
-        texts = [_Partial(_bytes(_encoded(it)), _bytes(text)) for it, text in self._partials.items()]
+        self._partials = [(it, _encoded(text)) for it, text in partials.items()]
+        texts = [_Partial(_bytes(_encoded(it)), _bytes(text)) for it, text in self._partials]
         self._array = (_Partial * max(len(texts), 1))(*texts)
 
     def page(self, names: bytes) -> _Page:
@@ -130,10 +132,11 @@ class Source:
     def error(self, outcome: _Outcome, message: str, rendered: bytes, names: bytes) -> LiquidError:
         """Returns the error of a page over these globals."""
         kind, line, column = Kind(outcome.kind), outcome.line or None, outcome.column or None
-        partial = partial_of(message, self._partials) if kind == Kind.REFUSED else None
+        partials = dict(self._partials)
+        partial = partial_of(message, partials) if kind == Kind.REFUSED else None
         if kind == Kind.NO_TEXT and outcome.which in _OF_PARTIALS:
-            partial = list(self._partials)[outcome.partial]
-        text = names if kind == Kind.BAD_JSON else self._template if partial is None else self._partials[partial]
+            partial = self._partials[outcome.partial][0]
+        text = names if kind == Kind.BAD_JSON else self._template if partial is None else partials[partial]
         return class_of(kind, message, line is not None)(
             message,
             line,
