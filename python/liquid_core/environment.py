@@ -12,7 +12,7 @@ from collections.abc import Iterable
 from typing import IO, Any
 
 from .errors import LiquidError, TemplateNotFound
-from .library import Options, Source, render_each_source, render_source
+from .library import Options, Partials, Source, render_each_source, render_source
 from .loaders import DictLoader, Loader
 from .values import Default, Globals, Text, json_of
 
@@ -27,7 +27,8 @@ class Environment:
     object with their methods ``names`` and ``read``; without one there are no partials. The other arguments are those
     of ``render``, but ``standard`` is true: templates have the tags, blocks and filters of standard Liquid.
 
-    An environment and its templates may be used by several threads at once.
+    What the loader raises, such as an ``OSError``, is raised when a page is rendered. An environment and its templates
+    may be used by several threads at once.
     """
 
     def __init__(
@@ -46,6 +47,7 @@ class Environment:
         self.default = default
         self.options = Options(sandboxed, lenient, standard, max_turns, max_bytes, max_memory)
         self._kept: dict[str, Template] = {}
+        self._partials = Partials({})
 
     def from_string(self, text: Text, name: str | None = None) -> Template:
         """Returns the template of a text. ``name`` is its name in errors, by default ``<string>``."""
@@ -70,8 +72,8 @@ class Environment:
             kept = self._kept[name] = Template(self, text, name)
         return kept
 
-    def partials(self) -> dict[str, Text]:
-        """Returns the texts of the loader by their names."""
+    def partials(self) -> Partials:
+        """Returns the texts that the loader has now."""
         texts: dict[str, Text] = {}
         if self.loader is not None:
             for name in self.loader.names():
@@ -80,7 +82,10 @@ class Environment:
                 except LookupError:
                     # It went away after the names were listed.
                     continue
-        return texts
+        partials = self._partials
+        if partials.given != texts:
+            partials = self._partials = Partials(texts)
+        return partials
 
 
 class Template:
@@ -94,7 +99,7 @@ class Template:
         self.environment = environment
         self.text = text
         self.name = name
-        self._kept: tuple[dict[str, Text], Source] | None = None
+        self._kept = Source(text, Partials({}), environment.options, name)
 
     def __repr__(self) -> str:
         return f"<Template {self.name!r}>"
@@ -148,11 +153,7 @@ class Template:
 
     def _source(self) -> Source:
         """Returns the template with the partials that the loader has now."""
-        partials = self.environment.partials()
-        if self._kept is not None and self._kept[0] == partials:
-            return self._kept[1]
-        source = Source(self.text, partials, self.environment.options, self.name)
-        if self._kept is not None:
-            source.longest = self._kept[1].longest
-        self._kept = partials, source
+        source, partials = self._kept, self.environment.partials()
+        if source.partials is not partials:
+            source = self._kept = source.beside(partials)
         return source

@@ -5,6 +5,7 @@ import enum
 import re
 from collections.abc import Collection
 from typing import Any
+from unicodedata import category
 
 __all__ = [
     "DataError",
@@ -92,7 +93,7 @@ class LiquidError(Exception):
     def explain(self) -> str:
         """Returns a text of several lines: the name of the template or partial, the line and the column, the source
         line, a caret under the column, and the message. What is not known is left out. Of a long line only a part
-        is shown. An error of the globals has the name ``globals``.
+        is shown, and a control character is shown as ``?``. An error of the globals has the name ``globals``.
         """
         name = "globals" if self.kind in (Kind.BAD_JSON, Kind.NO_GLOBALS) else self.template
         place = [] if self.line is None else [f"line {self.line}", f"column {self.column}"]
@@ -109,7 +110,8 @@ class LiquidError(Exception):
             before = len(line.encode("utf-8", "surrogatepass")[:before].decode("utf-8", "ignore"))
         first = max(0, before - _SHOWN)
         margin = "".join("\t" if it == "\t" else " " for it in line[first:before])
-        return [f"  {line[first : before + _SHOWN]}", f"  {margin}^"]
+        shown = "".join("?" if it != "\t" and category(it) == "Cc" else it for it in line[first : before + _SHOWN])
+        return [f"  {shown}", f"  {margin}^"]
 
 
 class TemplateSyntaxError(LiquidError):

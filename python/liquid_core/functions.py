@@ -4,7 +4,7 @@ from __future__ import annotations
 from collections.abc import Iterable, Mapping
 
 from .errors import LiquidError
-from .library import Options, Source, render_each_source, render_source
+from .library import Options, Partials, Source, render_each_source, render_source
 from .values import Default, Globals, Text, json_of
 
 __all__ = ["render", "render_each"]
@@ -43,7 +43,7 @@ def render(
     of the value, for globals that a template can't have.
     """
     options = Options(sandboxed, lenient, standard, max_turns, max_bytes, max_memory)
-    return render_source(Source(template, partials, options), json_of(globals, default)).decode()
+    return render_source(Source(template, Partials(partials), options), json_of(globals, default)).decode()
 
 
 def render_each(
@@ -70,4 +70,4 @@ def render_each(
     """
     options = Options(sandboxed, lenient, standard, max_turns, max_bytes, max_memory)
     texts = (json_of(names, default, f"globals[{number}]") for number, names in enumerate(globals))
-    return render_each_source(Source(template, partials, options), texts)
+    return render_each_source(Source(template, Partials(partials), options), texts)

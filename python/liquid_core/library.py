@@ -15,7 +15,7 @@ from typing import Any
 from .errors import Kind, LiquidError, class_of, partial_of
 from .values import Text
 
-__all__ = ["Options", "Source", "proved", "render_each_source", "render_source"]
+__all__ = ["Options", "Partials", "Source", "proved", "render_each_source", "render_source"]
 
 _VERSION = 2
 _SANDBOXED, _LENIENT, _STANDARD, _DECIMALS = 1, 2, 4, 8
@@ -101,42 +101,56 @@ class Options:
         return _DECIMALS | chosen
 
 
+class Partials:
+    """Partials, as the library takes them. ``given`` is what they were made of. Of two of one name the later counts."""
+
+    def __init__(self, given: Mapping[str, Text]) -> None:
+        self.given = given
+        self.texts = [(name, _encoded(text)) for name, text in given.items()]
+        items = [_Partial(_bytes(_encoded(name)), _bytes(text)) for name, text in self.texts]
+        self.array = (_Partial * max(len(items), 1))(*items)
+
+
 class Source:
-    """A template and its partials, as the library takes them.
+    """A template and its partials.
 
     ``name`` is the name of the template in its errors, and ``None`` if it has none. Then ``str()`` of an error is its
     message alone. ``longest`` is the length of the longest page so far, in bytes: the next one gets room for as many.
     """
 
-    def __init__(self, template: Text, partials: Mapping[str, Text], options: Options, name: str | None = None) -> None:
-        self.name = name
+    def __init__(
+        self, template: Text, partials: Partials, options: Options, name: str | None = None, longest: int = 0
+    ) -> None:
+        self.template = _encoded(template)
+        self.partials = partials
         self.options = options
-        self.longest = 0
-        self._template = _encoded(template)
-        self._partials = [(it, _encoded(text)) for it, text in partials.items()]
-        texts = [_Partial(_bytes(_encoded(it)), _bytes(text)) for it, text in self._partials]
-        self._array = (_Partial * max(len(texts), 1))(*texts)
+        self.name = name
+        self.longest = longest
+
+    def beside(self, partials: Partials) -> Source:
+        """Returns the template with other partials."""
+        return Source(self.template, partials, self.options, self.name, self.longest)
 
     def page(self, names: bytes) -> _Page:
         """Returns the page over these globals."""
-        options = self.options
+        options, partials = self.options, self.partials
         limits = options.bits(), options.max_turns, options.max_bytes
-        return _Page(_bytes(self._template), _bytes(names), self._array, len(self._partials), *limits)
+        return _Page(_bytes(self.template), _bytes(names), partials.array, len(partials.texts), *limits)
 
     def room(self, texts: Sequence[bytes]) -> int:
         """Returns how many bytes the pages over these globals are likely to have at most."""
-        guess = 4 * (len(self._template) * len(texts) + sum(map(len, texts)))
+        guess = 4 * (len(self.template) * len(texts) + sum(map(len, texts)))
         # (an eighth more, since the next page may be somewhat longer)
         return max(_LEAST_ROOM, guess, (self.longest + self.longest // 8) * len(texts))
 
     def error(self, outcome: _Outcome, message: str, rendered: bytes, names: bytes) -> LiquidError:
         """Returns the error of a page over these globals."""
         kind, line, column = Kind(outcome.kind), outcome.line or None, outcome.column or None
-        partials = dict(self._partials)
+        partials = dict(self.partials.texts)
         partial = partial_of(message, partials) if kind == Kind.REFUSED else None
         if kind == Kind.NO_TEXT and outcome.which in _OF_PARTIALS:
-            partial = self._partials[outcome.partial][0]
-        text = names if kind == Kind.BAD_JSON else self._template if partial is None else partials[partial]
+            partial = self.partials.texts[outcome.partial][0]
+        text = names if kind == Kind.BAD_JSON else self.template if partial is None else partials[partial]
         return class_of(kind, message, line is not None)(
             message,
             line,

@@ -58,6 +58,13 @@ class Environments(unittest.TestCase):
         with self.assertRaises(TypeError):
             Environment().get_template("card")
 
+    def test_a_text_is_str_or_bytes(self):
+        self.assertEqual(Environment().from_string("雨".encode()).render(), "雨")
+        with self.assertRaises(TypeError):
+            Environment().from_string(1)
+        with self.assertRaises(TypeError):
+            Environment(DictLoader({"a": 1})).from_string("").render()
+
     def test_any_loader(self):
         class Upper:
             def names(self):
@@ -197,8 +204,8 @@ class Files(unittest.TestCase):
 
     def test_names_that_no_file_has(self):
         loader = FileSystemLoader(self.top, ext=".liquid")
-        names = ["", "nav", "missing", "../secret", "nav/../page", "./page", "/page", "page/x", "nav//item", "a\0b", str(self.top / "page")]
-        for name in names:
+        steps = ["", "nav", "missing", "../secret", "nav/../page", "./page", "/page", "page/x", "nav//item", "a\0b"]
+        for name in [*steps, str(self.top / "page")]:
             with self.subTest(name), self.assertRaises(TemplateNotFound):
                 loader.read(name)
 

@@ -120,6 +120,7 @@ class Explanations(unittest.TestCase):
         ("{% if x %}", "in page, line 1, column 11\n  {% if x %}\n            ^"),
         ("{% if x %}\n", "in page, line 2, column 1\n  \n  ^"),
         ("a" * 100 + "{{ x" + "b" * 100, "in page, line 1, column 101\n  " + "a" * 60 + "{{ x" + "b" * 56 + "\n  " + " " * 60 + "^"),
+        ("\x1b[1m {% wrong %}\x7f", "in page, line 1, column 9\n  ?[1m {% wrong %}?\n          ^"),
         ("{{ x }}", "in page"),
         ("{% include 'unread' %}", "in unread, line 2, column 2\n  \t{{ title }</h2>\n  \t^"),
     ]
