@@ -1,5 +1,6 @@
 """Environments and templates.
 
+    >>> from liquid_core import DictLoader, Environment
     >>> env = Environment(loader=DictLoader({"page": "Dear {{ name }},", "card": "<h2>{{ title | upcase }}</h2>"}))
     >>> env.get_template("page").render(name="rain")
     'Dear rain,'
@@ -13,7 +14,7 @@ from typing import IO, Any
 
 from .errors import LiquidError, TemplateNotFound
 from .library import Options, Partials, Source, render_each_source, render_source
-from .loaders import DictLoader, Loader
+from .loaders import Loader
 from .values import Default, Globals, Text, json_of
 
 __all__ = ["Environment", "Template"]

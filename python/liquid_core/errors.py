@@ -29,6 +29,7 @@ _SHOWN = 60
 _UNDEFINED = ("liquid: Unknown variable", "liquid: Unknown index")
 _CALLS_REFUSED = ("liquid: Unknown partial-template", "liquid: Partial does not exist", "liquid: Partials nest too deep")
 _CALL = re.compile(r"^from: (?:include|render) (.*)$", re.M)
+_PLACE = re.compile(r" \(line \d+, column \d+\)$")
 
 
 class Kind(enum.IntEnum):
@@ -97,7 +98,7 @@ class LiquidError(Exception):
         """
         name = "globals" if self.kind in (Kind.BAD_JSON, Kind.NO_GLOBALS) else self.template
         place = [] if self.line is None else [f"line {self.line}", f"column {self.column}"]
-        lines = [", ".join(place if name is None else [f"in {name}", *place])]
+        lines = [", ".join(place if name is None else [f"in {_visible(name)}", *place])]
         if self.source_line is not None and self.column is not None:
             lines += self._shown(self.source_line, self.column)
         return "\n".join([*filter(None, lines), self.message])
@@ -110,8 +111,12 @@ class LiquidError(Exception):
             before = len(line.encode("utf-8", "surrogatepass")[:before].decode("utf-8", "ignore"))
         first = max(0, before - _SHOWN)
         margin = "".join("\t" if it == "\t" else " " for it in line[first:before])
-        shown = "".join("?" if it != "\t" and category(it) == "Cc" else it for it in line[first : before + _SHOWN])
-        return [f"  {shown}", f"  {margin}^"]
+        return [f"  {_visible(line[first : before + _SHOWN])}", f"  {margin}^"]
+
+
+def _visible(text: str) -> str:
+    """Returns the text with ``?`` in place of what a terminal would not show as it is, which may be a command to it."""
+    return "".join("?" if it != "\t" and category(it) in ("Cc", "Cs") else it for it in text)
 
 
 class TemplateSyntaxError(LiquidError):
@@ -163,14 +168,14 @@ _CLASSES = {
 }
 
 
-def class_of(kind: Kind, message: str, has_place: bool) -> type[LiquidError]:
-    """Returns the class of an error. One of rendering has a place only if a partial can't be read."""
+def class_of(kind: Kind, message: str) -> type[LiquidError]:
+    """Returns the class of an error. The message of one of rendering has a place only if a partial can't be read."""
     if kind != Kind.REFUSED:
         return _CLASSES.get(kind, LiquidError)
     lines = message.split("\n")
     if lines[0] == "liquid: Rendering was stopped":
         return LimitError
-    if has_place or lines[0] in _CALLS_REFUSED or "from: Filter parsing error" in lines:
+    if lines[0] in _CALLS_REFUSED or _PLACE.search(lines[0]) or "from: Filter parsing error" in lines:
         return PartialError
     if lines[0] in _UNDEFINED:
         return UndefinedError

@@ -23,6 +23,8 @@ _OK = 0
 # What is not UTF-8: the name of a partial, or its text.
 _OF_PARTIALS = (2, 3)
 _LEAST_ROOM, _LARGE_ROOM = 1 << 16, 1 << 20
+# A guess is no more than this, since the system may refuse more, though most of it would not be written.
+_MOST_ROOM = 1 << 28
 _MESSAGE_ROOM = 1 << 12
 _NO_MEMORY = "liquid: out of memory"
 
@@ -97,6 +99,7 @@ class Options:
                 raise ValueError("a limit is a number from 0 to 2**64 - 1")
 
     def bits(self) -> int:
+        """Returns the options as the library takes them."""
         chosen = _SANDBOXED * bool(self.sandboxed) | _LENIENT * bool(self.lenient) | _STANDARD * bool(self.standard)
         return _DECIMALS | chosen
 
@@ -141,7 +144,8 @@ class Source:
         """Returns how many bytes the pages over these globals are likely to have at most."""
         guess = 4 * (len(self.template) * len(texts) + sum(map(len, texts)))
         # (an eighth more, since the next page may be somewhat longer)
-        return max(_LEAST_ROOM, guess, (self.longest + self.longest // 8) * len(texts))
+        longest = self.longest + self.longest // 8
+        return max(_LEAST_ROOM, longest, min(max(guess, longest * len(texts)), _MOST_ROOM))
 
     def error(self, outcome: _Outcome, message: str, rendered: bytes, names: bytes) -> LiquidError:
         """Returns the error of a page over these globals."""
@@ -151,7 +155,7 @@ class Source:
         if kind == Kind.NO_TEXT and outcome.which in _OF_PARTIALS:
             partial = self.partials.texts[outcome.partial][0]
         text = names if kind == Kind.BAD_JSON else self.template if partial is None else partials[partial]
-        return class_of(kind, message, line is not None)(
+        return class_of(kind, message)(
             message,
             line,
             column,

@@ -163,6 +163,12 @@ class Templates(unittest.TestCase):
             self.assertEqual([len(it) for it in page.render_each([{"n": 20_000}] * 3)], [200_000] * 3)
             self.assertEqual(len(rooms), 5)
 
+    def test_the_room_of_many_pages_has_a_limit(self):
+        page = Environment().from_string("{{ x }}")
+        # (room for each to be as long as the longest would be 4 TB)
+        with mock.patch.object(page._kept, "longest", 1 << 26):
+            self.assertEqual(page.render_each(['{"x": 1}'] * 60_000), ["1"] * 60_000)
+
 
 class Files(unittest.TestCase):
     def setUp(self):

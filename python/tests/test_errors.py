@@ -132,6 +132,11 @@ class Explanations(unittest.TestCase):
                 self.assertEqual(error.explain(), f"{explanation}\n{error.message}")
                 self.assertEqual(str(error), error.explain())
 
+    def test_a_name_with_control_characters(self):
+        with self.assertRaises(UndefinedError) as raised:
+            Environment().from_string("{{ x }}", "a\n\x1b[2J\udc80").render()
+        self.assertEqual(str(raised.exception).split("\n")[0], "in a??[2J?")
+
     def test_a_column_of_json_counts_bytes(self):
         with self.assertRaises(DataError) as raised:
             Environment().from_string("").render('{"ü": "雨",\n "ü" 1}')
