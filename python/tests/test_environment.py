@@ -11,7 +11,16 @@ import unittest
 from unittest import mock
 
 import liquid_core
-from liquid_core import DictLoader, Environment, FileSystemLoader, LiquidError, TemplateNotFound, UndefinedError, proved
+from liquid_core import (
+    DictLoader,
+    Environment,
+    FileSystemLoader,
+    LiquidError,
+    PartialError,
+    TemplateNotFound,
+    UndefinedError,
+    proved,
+)
 
 LONG = "{% for i in (1..n) %}0123456789{% endfor %}"
 
@@ -64,6 +73,12 @@ class Environments(unittest.TestCase):
             Environment().from_string(1)
         with self.assertRaises(TypeError):
             Environment(DictLoader({"a": 1})).from_string("").render()
+
+    def test_a_partial_with_a_mistake_is_an_error_where_it_is_used(self):
+        env = Environment(DictLoader({"wrong": "{% wrong %}"}))
+        self.assertEqual(env.from_string("x").render(), "x")
+        with self.assertRaises(PartialError):
+            env.from_string("{% include 'wrong' %}").render()
 
     def test_any_loader(self):
         class Upper:
@@ -214,6 +229,10 @@ class Files(unittest.TestCase):
         for name in [*steps, str(self.top / "page")]:
             with self.subTest(name), self.assertRaises(TemplateNotFound):
                 loader.read(name)
+        with mock.patch("os.stat", side_effect=AssertionError("a look outside the folder")):
+            for name in ("../secret", "./page", "/page"):
+                with self.assertRaises(TemplateNotFound):
+                    loader.read(name)
 
     def test_links(self):
         os.symlink("page.liquid", self.top / "same.liquid")
