@@ -64,7 +64,9 @@ def metadata() -> str:
 
 
 def files() -> dict[str, bytes]:
-    packed = {f"liquid_core/{name}": (HERE / "liquid_core" / name).read_bytes() for name in ("__init__.py", "py.typed", "libliquid.so")}
+    package = HERE / "liquid_core"
+    paths = [*sorted(package.glob("*.py")), package / "py.typed", package / "libliquid.so"]
+    packed = {f"liquid_core/{path.name}": path.read_bytes() for path in paths}
     info = f"{field('name')}-{version()}.dist-info"
     packed[f"{info}/METADATA"] = metadata().encode()
     packed[f"{info}/WHEEL"] = f"Wheel-Version: 1.0\nGenerator: liquid_core\nRoot-Is-Purelib: false\nTag: {TAG}\n".encode()
