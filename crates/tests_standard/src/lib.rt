@@ -16,6 +16,8 @@ mod isolated_rows;
 #[cfg(test)]
 mod library_rows;
 #[cfg(test)]
+mod own_tag_rows;
+#[cfg(test)]
 mod parents;
 #[cfg(test)]
 mod shop_reviews;
