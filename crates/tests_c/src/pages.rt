@@ -1,6 +1,6 @@
 //! Pages in the caller's memory, and how they end.
 use liquid_c::each::render_each;
-use liquid_c::page::{EMPTY, LENIENT, Outcome, Page, SANDBOXED, STANDARD};
+use liquid_c::page::{DECIMALS, EMPTY, LENIENT, Outcome, Page, SANDBOXED, STANDARD};
 use liquid_c::rendering::render;
 use liquid_pages::PartialBytes;
 use std::alloc::Global;
@@ -64,7 +64,7 @@ type Row<'a> = (
     &'a [u8],
 );
 
-static ROWS: [Row<'static>; 16] = [
+static ROWS: [Row<'static>; 17] = [
     (b"", b"{}", 0, 0, 0, 0, 0, 0, b""),
     (b"a{{ x }}c", b"{\"x\": 7}", 0, 0, 9, 0, 0, 3, b"a7c"),
     (b"a{{ x }}c", b"{\"x\": 7}", 0, 0, 2, 7, 0, 3, b"a7"),
@@ -130,7 +130,18 @@ static ROWS: [Row<'static>; 16] = [
         4,
         b"a2b1",
     ),
-    (b"a", b"{}", 0, 8, 9, 8, 0, 0, b""),
+    (
+        b"{{ x }}",
+        b"{\"x\": 1.50}",
+        0,
+        DECIMALS,
+        9,
+        0,
+        0,
+        4,
+        b"1.50",
+    ),
+    (b"a", b"{}", 0, 16, 9, 8, 0, 0, b""),
 ];
 
 /// Returns `true` if a row's page ends as the row says, with the output of the row and no other byte.
