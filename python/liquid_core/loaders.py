@@ -53,7 +53,8 @@ class FileSystemLoader:
     """A loader of the files in a folder and in the folders below it.
 
     The names are those of the files that end in ``ext``, as paths in the folder, with ``/`` and without ``ext``: with
-    ``ext=".liquid"`` the file ``nav/item.liquid`` is ``nav/item``. A file is read when it is first asked for, and again
+    ``ext=".liquid"`` the file ``nav/item.liquid`` is ``nav/item``. ``read``, and so ``get_template``, also takes a name
+    with ``ext``, but a partial has only the name without it. A file is read when it is first asked for, and again
     when its time of modification or its size is another. A link to a file outside the folder is passed over, and so is
     each link to a folder.
     """
@@ -83,6 +84,18 @@ class FileSystemLoader:
         """Returns the text of a template. Raises ``TemplateNotFound`` if there is none of this name, ``OSError`` if its
         file can't be read, and ``ValueError`` if the file is not text in the encoding.
         """
+        try:
+            return self._read(name)
+        except TemplateNotFound:
+            if not self.ext or not name.endswith(self.ext):
+                raise
+        try:
+            return self._read(name[: len(name) - len(self.ext)])
+        except TemplateNotFound:
+            raise TemplateNotFound(name) from None
+
+    def _read(self, name: str) -> str:
+        """Returns the text of the template of this name, without ``ext``."""
         path = self._path(name)
         try:
             status = os.stat(path)

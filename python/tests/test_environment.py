@@ -205,6 +205,14 @@ class Files(unittest.TestCase):
         self.assertEqual(FileSystemLoader(self.top).read("note.txt"), "no")
         self.assertEqual(Environment(FileSystemLoader(self.top, ".liquid")).get_template("page").render(x=1), "<li>1</li>")
 
+    def test_a_name_with_its_ending(self):
+        loader = FileSystemLoader(self.top, ext=".liquid")
+        self.assertEqual(loader.read("page.liquid"), loader.read("page"))
+        page = Environment(loader).get_template("page.liquid")
+        self.assertEqual((page.name, page.render(x=1)), ("page.liquid", "<li>1</li>"))
+        with self.assertRaisesRegex(TemplateNotFound, r"^missing\.liquid$"):
+            loader.read("missing.liquid")
+
     def test_a_file_that_changes_is_read_again(self):
         env = Environment(FileSystemLoader(self.top, ext=".liquid"))
         page = env.get_template("page")
