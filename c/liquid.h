@@ -6,8 +6,9 @@
  *
  * What the caller owes, since nothing checks it here:
  *  1. Each pointer, those in structs too, is aligned for its type, is not null, and points to as many items as
- *     its count says, or to one if it has no count. They are at most PTRDIFF_MAX bytes. With a count of 0 any
- *     aligned pointer but null will do; liquid_bytes_of makes one of a null pointer.
+ *     its count says, or to one if it has no count. They are at most PTRDIFF_MAX bytes. A pointer with a count of
+ *     0 is not null either, but any other aligned one will do. liquid_bytes_of, liquid_text and liquid_page_of
+ *     return no null pointer.
  *  2. During the call nobody writes to page, globals and what they point to. out, message and outcome (outcomes)
  *     overlap neither one another nor these, and nobody else reads or writes them. What they hold before the
  *     call does not matter.
@@ -25,6 +26,7 @@
 
 #include <stddef.h>
 #include <stdint.h>
+#include <string.h>
 
 #ifdef __cplusplus
 extern "C" {
@@ -58,7 +60,7 @@ enum {
 typedef struct liquid_page {
     liquid_bytes text;              /* the template */
     liquid_bytes globals;           /* a JSON object: its members are the names that the template sees */
-    const liquid_partial *partials; /* never null */
+    const liquid_partial *partials; /* never null, not even if there are none */
     size_t partial_count;
     uint32_t options;
     /* A page that takes more turns of tags and blocks, or writes more bytes, is stopped, and ends as
@@ -146,6 +148,25 @@ static inline liquid_bytes liquid_bytes_of(const void *at, size_t len) {
     bytes.at = at ? (const uint8_t *)at : (const uint8_t *)"";
     bytes.len = at ? len : 0;
     return bytes;
+}
+
+/* Returns the bytes of a C string, without the zero byte that ends it; none for a null pointer. */
+static inline liquid_bytes liquid_text(const char *text) {
+    return liquid_bytes_of(text, text ? strlen(text) : 0);
+}
+
+/* Returns a page with a template and globals, and with no partials, no options and no limits, for the caller to add. */
+static inline liquid_page liquid_page_of(liquid_bytes text, liquid_bytes globals) {
+    static const liquid_partial none = {{NULL, 0}, {NULL, 0}}; /* with a count of 0 nothing reads it */
+    liquid_page page;
+    page.text = text;
+    page.globals = globals;
+    page.partials = &none;
+    page.partial_count = 0;
+    page.options = 0;
+    page.max_turns = 0;
+    page.max_bytes = 0;
+    return page;
 }
 
 #ifdef __cplusplus
