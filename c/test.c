@@ -105,7 +105,7 @@ static const row_type rows[] = {
     {"too many bytes", "a{{ 7 }}bc", "{}", 0, LIQUID_SANDBOXED, 0, 3, ROOM, LIQUID_REFUSED, 0, 0, 0, 0, 2, "a7", NULL},
 };
 
-static liquid_bytes of(const char *text) { return liquid_bytes_of(text, strlen(text)); }
+static liquid_bytes of(const char *text) { return liquid_text(text); }
 
 static uint8_t out[ROOM], message[256];
 static liquid_outcome got;
@@ -212,6 +212,22 @@ static void try_names(void) {
     check(got.kind == LIQUID_BAD_JSON && got.needed == 0 && got.message_len > 0, row.name, "sizes of 0");
 }
 
+/* What the header makes of texts, and of null pointers: no null pointer reaches the library. */
+static void try_texts(void) {
+    static const char *name = "texts";
+    liquid_page page = liquid_page_of(liquid_text("a{{ x }}c"), liquid_text("{\"x\": 7}"));
+    liquid_bytes none = liquid_text(NULL);
+    check(none.at && none.len == 0, name, "a null pointer");
+    check(liquid_text("").at && liquid_text("").len == 0, name, "an empty text");
+    check(page.partials && page.partial_count == 0 && page.options == 0, name, "no partials, no options");
+    check(page.max_turns == 0 && page.max_bytes == 0, name, "no limits");
+    liquid_render(&page, out, sizeof out, message, sizeof message, &got);
+    check(got.kind == LIQUID_OK && got.written == 3 && !memcmp(out, "a7c", 3), name, "the page");
+    page = liquid_page_of(none, liquid_text("{}"));
+    liquid_render(&page, out, 0, message, 0, &got);
+    check(got.kind == LIQUID_OK && got.needed == 0, name, "a template of a null pointer");
+}
+
 /* One template over many globals, with as many outcomes and less room than they want. */
 static void try_each(void) {
     static const row_type row = {"each", "{% include 'a', y: x %}", "\xff", 1, 0, 0, 0, 9, 0, 0, 0, 0, 0, 0, "", ""};
@@ -274,6 +290,7 @@ int main(void) {
         try_turns(&rows[i]);
     }
     try_names();
+    try_texts();
     try_each();
     try_growths();
     try_growths_of_each();
