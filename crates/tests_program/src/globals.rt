@@ -41,7 +41,7 @@ fn globals_nest_to_a_depth(rt: HostRuntime) -> Result<(), Fail> {
 /// Numbers that are integers or decimals, with `--decimals`.
 const DECIMALS: &str =
     r#"["render --decimals t g.json", "{{ x }}|{{ y }}", "{\"x\": 1.50, \"y\": -0.05}", 0, "1.50|-0.05", ""]
-["render t g.json --decimals", "{{ x[0] }} {{ x[1].y }}", "{\"x\": [2.5, {\"y\": 0.125}]}", 0, "2.5 0.125", ""]
+["render --decimals t g.json", "{{ x[0] }} {{ x[1].y }}", "{\"x\": [2.5, {\"y\": 0.125}]}", 0, "2.5 0.125", ""]
 ["render --decimals t g.json", "{{ x }}", "{\"x\": 1e3}", 0, "1000", ""]
 ["render --decimals t g.json", "{{ x }}", "{\"x\": 1.5e2}", 0, "150", ""]
 ["render --decimals t g.json", "{{ x }}", "{\"x\": 15E-1}", 0, "1.5", ""]
