@@ -5,10 +5,9 @@
  * before it returns. It keeps no pointer.
  *
  * What the caller owes, since nothing checks it here:
- *  1. Each pointer, those in structs too, is aligned for its type, is not null, and points to as many items as
- *     its count says, or to one if it has no count. They are at most PTRDIFF_MAX bytes. A pointer with a count of
- *     0 is not null either, but any other aligned one will do. liquid_bytes_of, liquid_text and liquid_page_of
- *     return no null pointer.
+ *  1. Each pointer, those in structs too, is aligned for its type, and points to as many items as its count says,
+ *     or to one if it has no count. They are at most PTRDIFF_MAX bytes. A pointer with a count of 0 may be null, and
+ *     no other.
  *  2. During the call nobody writes to page, globals and what they point to. out, message and outcome (outcomes)
  *     overlap neither one another nor these, and nobody else reads or writes them. What they hold before the
  *     call does not matter.
@@ -36,7 +35,7 @@ extern "C" {
 
 /* Bytes of the caller's. No zero byte ends them. */
 typedef struct liquid_bytes {
-    const uint8_t *at; /* never null */
+    const uint8_t *at; /* may be null if len is 0 */
     size_t len;
 } liquid_bytes;
 
@@ -60,7 +59,7 @@ enum {
 typedef struct liquid_page {
     liquid_bytes text;              /* the template */
     liquid_bytes globals;           /* a JSON object: its members are the names that the template sees */
-    const liquid_partial *partials; /* never null, not even if there are none */
+    const liquid_partial *partials; /* may be null if there are none */
     size_t partial_count;
     uint32_t options;
     /* A page that takes more turns of tags and blocks, or writes more bytes, is stopped, and ends as
@@ -75,7 +74,8 @@ typedef struct liquid_page {
 enum {
     LIQUID_OK = 0,         /* the whole page was rendered, and is in out */
     LIQUID_UNPARSED = 1,   /* the template can't be read: nothing was rendered */
-    LIQUID_REFUSED = 2,    /* rendering ended early: what was rendered before is in out */
+    LIQUID_REFUSED = 2,    /* rendering ended early: what was rendered before is in out. If a limit stopped it,
+                              outcome.limit says which */
     LIQUID_BAD_JSON = 3,   /* the globals are not JSON */
     LIQUID_NO_GLOBALS = 4, /* the JSON is not an object, or has a number that is not a whole one of 64 bits, nor, with
                               LIQUID_DECIMALS, a decimal */
@@ -85,18 +85,23 @@ enum {
     LIQUID_NO_OPTIONS = 8  /* there are no such options: nothing was read */
 };
 
-/* outcome.which, if the kind is LIQUID_NO_TEXT. */
+/* outcome.which: the text that is not UTF-8, or that has the place of the error. */
 enum { LIQUID_TEMPLATE = 0, LIQUID_GLOBALS = 1, LIQUID_PARTIAL_NAME = 2, LIQUID_PARTIAL_TEXT = 3 };
+
+/* outcome.limit, if a limit of the page stopped it. */
+enum { LIQUID_TURNS = 1, LIQUID_BYTES = 2 };
 
 typedef struct liquid_outcome {
     uint32_t kind;
     uint32_t which;
     size_t partial;     /* LIQUID_PARTIAL_NAME and LIQUID_PARTIAL_TEXT: the number of the partial, from 0 */
-    size_t line;        /* where the error is in the template, in a partial or in the JSON, from 1; */
+    size_t line;        /* where the error is in that text (the template, the globals or a partial), from 1; */
     size_t column;      /* 0 if it has no place. Columns count characters, but bytes in JSON */
     size_t needed;      /* how many bytes were rendered */
     size_t written;     /* how many of them are in out: the smaller of needed and out_len */
-    size_t message_len; /* how many bytes the text of the error has; message has the first of them */
+    size_t message_len; /* how many bytes the text of the error has; message has the first of them. 0 if there is no
+                           error, or no memory for its text */
+    uint32_t limit;     /* the limit that stopped the page, or 0 */
 } liquid_outcome;
 
 /* Renders a page into out, and writes all of *outcome. out[written] and what comes after it stay as they
@@ -145,7 +150,7 @@ uint32_t liquid_proved(void);
 /* Returns the bytes at a pointer; none for a null pointer. */
 static inline liquid_bytes liquid_bytes_of(const void *at, size_t len) {
     liquid_bytes bytes;
-    bytes.at = at ? (const uint8_t *)at : (const uint8_t *)"";
+    bytes.at = (const uint8_t *)at;
     bytes.len = at ? len : 0;
     return bytes;
 }
@@ -157,11 +162,10 @@ static inline liquid_bytes liquid_text(const char *text) {
 
 /* Returns a page with a template and globals, and with no partials, no options and no limits, for the caller to add. */
 static inline liquid_page liquid_page_of(liquid_bytes text, liquid_bytes globals) {
-    static const liquid_partial none = {{NULL, 0}, {NULL, 0}}; /* with a count of 0 nothing reads it */
     liquid_page page;
     page.text = text;
     page.globals = globals;
-    page.partials = &none;
+    page.partials = NULL;
     page.partial_count = 0;
     page.options = 0;
     page.max_turns = 0;

@@ -4,10 +4,8 @@
  * A call frees all that it allocates before it returns, and in its thread. So a block is freed under the limit
  * that it was allocated under: without one it is a block of malloc, and with one it has its size before it.
  */
-#include "liquid.h"
+#include "internal.h"
 #include <stdlib.h>
-
-#define INTERNAL __attribute__((visibility("hidden")))
 
 /* As long as any alignment that a block may have. */
 #define HEAD 16
@@ -16,10 +14,6 @@
 
 /* The limit of this thread's call in bytes, 0 for none, and what the call holds. */
 static _Thread_local size_t limit, held;
-
-INTERNAL void *liquid_memory_alloc(size_t size);
-INTERNAL void *liquid_memory_realloc(void *block, size_t size);
-INTERNAL void liquid_memory_free(void *block);
 
 /* Whether the call may hold one more block of this size. */
 static int has_room(size_t size) {

@@ -45,12 +45,16 @@ WRONG_GLOBALS = ["", " ", "[]", "7", "null", '"{}"', "{", "{}x", "{}{}", "\ufeff
 WRONG_BYTES = [b"\xff", b"\x80", b"\xc3", b"\xed\xa0\x80", b"\xf4\x90\x80\x80", b"\xc0\x80"]
 
 
-class Pages:
-    """The pages of a seed in one of the two languages."""
+LANGUAGES = ("small", "library", "standard")
 
-    def __init__(self, seed, standard):
+
+class Pages:
+    """The pages of a seed in a language: texts and outputs of values alone, the tag library, or standard Liquid."""
+
+    def __init__(self, seed, language):
         self.random = random.Random(seed)
-        self.standard = standard
+        self.small = language == "small"
+        self.standard = language == "standard"
         self.faults = self.one([0, 0, 0, 0, 0.01, 0.03, 0.1, 0.4])
 
     def one(self, items):
@@ -163,7 +167,9 @@ class Pages:
         return "{%% %s %s %%}" % (name, words) + body + end.replace("@", name)
 
     def text(self, depth=0):
-        pieces = [lambda: self.one(TEXTS if self.chance(0.2) else TEXTS[:5]), self.output, lambda: self.element(depth)]
+        pieces = [lambda: self.one(TEXTS if self.chance(0.2) else TEXTS[:5]), self.output]
+        if not self.small or self.is_fault():
+            pieces.append(lambda: self.element(depth))
         return "".join(self.one(pieces)() for _ in range(self.random.randint(*[(1, 8), (0, 4)][depth > 0])))
 
     def mixed(self):

@@ -12,7 +12,7 @@
 /* crates/liquid_c/src/page.rt has the same sizes. */
 static_assert(sizeof(liquid_page) == 72, "liquid_page");
 static_assert(sizeof(liquid_partial) == 32, "liquid_partial");
-static_assert(sizeof(liquid_outcome) == 56, "liquid_outcome");
+static_assert(sizeof(liquid_outcome) == 64, "liquid_outcome");
 
 #ifdef __cplusplus
 extern "C" {
@@ -79,8 +79,10 @@ static const row_type rows[] = {
     {"names twice", "{{ x }}", "{\"x\": 1, \"x\": 2}", 0, 0, 0, 0, ROOM, LIQUID_OK, 0, 0, 0, 0, 1, "2", ""},
     {"unparsed", "a\n{% wrong %}", "{}", 0, 0, 0, 0, ROOM, LIQUID_UNPARSED, 0, 0, 2, 4, 0, "", NULL},
     {"no such filter", "ab{{ x | append: 1 }}", "{}", 0, 0, 0, 0, ROOM, LIQUID_UNPARSED, 0, 0, 1, 10, 0, "", NULL},
-    {"unknown", "ab{{ x }}", "{}", 0, 0, 0, 0, ROOM, LIQUID_REFUSED, 0, 0, 0, 0, 2, "ab", NULL},
-    {"bad JSON", "{{", "{\"a\": }", 2, 0, 0, 0, ROOM, LIQUID_BAD_JSON, 0, 0, 1, 7, 0, "", NULL},
+    {"unknown", "ab{{ x }}", "{}", 0, 0, 0, 0, ROOM, LIQUID_REFUSED, 0, 0, 1, 6, 2, "ab", NULL},
+    {"unknown in a partial", "a\n{% include 'a' %}", "{}", 1, 0, 0, 0, ROOM, LIQUID_REFUSED, LIQUID_PARTIAL_TEXT, 0, 1, 5, 3, "a\n[", NULL},
+    {"no such partial", "\n {% include 'c' %}", "{}", 1, 0, 0, 0, ROOM, LIQUID_REFUSED, 0, 0, 2, 5, 2, "\n ", NULL},
+    {"bad JSON", "{{", "{\"a\": }", 2, 0, 0, 0, ROOM, LIQUID_BAD_JSON, LIQUID_GLOBALS, 0, 1, 7, 0, "", NULL},
     {"a list", "{{", "[1]", 2, 0, 0, 0, ROOM, LIQUID_NO_GLOBALS, 0, 0, 0, 0, 0, "", "liquid: Object cannot be an array.\n"},
     {"no template", "\xff", "\xff", 2, 0, 0, 0, ROOM, LIQUID_NO_TEXT, LIQUID_TEMPLATE, 0, 0, 0, 0, "", "liquid: the template is not UTF-8\n"},
     {"no text of JSON", "{{", "\"\xff\"", 2, 0, 0, 0, ROOM, LIQUID_NO_TEXT, LIQUID_GLOBALS, 0, 0, 0, 0, "", "liquid: the text of the globals is not UTF-8\n"},
@@ -100,7 +102,7 @@ static const row_type rows[] = {
     {"no option", "a", "{}", 0, 16, 0, 0, ROOM, LIQUID_NO_OPTIONS, 0, 0, 0, 0, 0, "", ""},
     {"all bits", "a", "{}", 0, UINT32_MAX, 0, 0, ROOM, LIQUID_NO_OPTIONS, 0, 0, 0, 0, 0, "", ""},
     {"turns", "{% for i in (1..3) %}{{ i }}{% endfor %}", "{}", 0, 0, 4, 0, ROOM, LIQUID_OK, 0, 0, 0, 0, 3, "123", ""},
-    {"too many turns", "{% for i in (1..3) %}{{ i }}{% endfor %}", "{}", 0, 0, 2, 0, ROOM, LIQUID_REFUSED, 0, 0, 0, 0, 2, "12", NULL},
+    {"too many turns", "{% for i in (1..3) %}{{ i }}{% endfor %}", "{}", 0, 0, 2, 0, ROOM, LIQUID_REFUSED, 0, 0, 1, 4, 2, "12", NULL},
     {"bytes", "a{{ 7 }}bc", "{}", 0, 0, 0, 4, ROOM, LIQUID_OK, 0, 0, 0, 0, 4, "a7bc", ""},
     {"too many bytes", "a{{ 7 }}bc", "{}", 0, LIQUID_SANDBOXED, 0, 3, ROOM, LIQUID_REFUSED, 0, 0, 0, 0, 2, "a7", NULL},
 };
@@ -135,6 +137,12 @@ static void render(const row_type *row) {
     for (i = got.written; i < sizeof out; i++) check(out[i] == '#', row->name, "a byte after what was written");
 }
 
+/* The limit that stops the page of a row: no row has both. */
+static uint32_t limit_of(const row_type *row) {
+    if (row->kind != LIQUID_REFUSED || (!row->turns && !row->bytes)) return 0;
+    return row->turns ? LIQUID_TURNS : LIQUID_BYTES;
+}
+
 static void try_row(const row_type *row) {
     size_t len = strlen(row->written);
     render(row);
@@ -143,6 +151,7 @@ static void try_row(const row_type *row) {
     check(got.partial == row->partial, row->name, "partial");
     check(got.line == row->line, row->name, "line");
     check(got.column == row->column, row->name, "column");
+    check(got.limit == limit_of(row), row->name, "limit");
     check(got.needed == row->needed, row->name, "needed");
     check(got.written == len && !memcmp(out, row->written, len), row->name, "what was written");
     if (row->message) {
@@ -203,6 +212,10 @@ static void try_names(void) {
     partials[2].name = of("a"), partials[2].text = of("later");
     liquid_render(&page, out, row.room, message, sizeof message, &got);
     check(got.kind == LIQUID_OK && got.written == 9 && !memcmp(out, "laternone", 9), row.name, "the later of two stays");
+    partials[2].text = of("later\n{{ y }}");
+    liquid_render(&page, out, row.room, message, sizeof message, &got);
+    check(got.kind == LIQUID_REFUSED && got.which == LIQUID_PARTIAL_TEXT && got.partial == 2, row.name, "the later of two fails");
+    check(got.line == 2 && got.column == 4, row.name, "where the later of two fails");
     partials[1].name = of("\xff");
     liquid_render(&page, out, row.room, message, sizeof message, &got);
     check(got.kind == LIQUID_NO_TEXT && got.which == LIQUID_PARTIAL_NAME && got.partial == 1, row.name, "not UTF-8");
@@ -212,20 +225,67 @@ static void try_names(void) {
     check(got.kind == LIQUID_BAD_JSON && got.needed == 0 && got.message_len > 0, row.name, "sizes of 0");
 }
 
-/* What the header makes of texts, and of null pointers: no null pointer reaches the library. */
+/* What the header makes of texts and of null pointers. */
 static void try_texts(void) {
     static const char *name = "texts";
     liquid_page page = liquid_page_of(liquid_text("a{{ x }}c"), liquid_text("{\"x\": 7}"));
     liquid_bytes none = liquid_text(NULL);
-    check(none.at && none.len == 0, name, "a null pointer");
-    check(liquid_text("").at && liquid_text("").len == 0, name, "an empty text");
-    check(page.partials && page.partial_count == 0 && page.options == 0, name, "no partials, no options");
+    check(none.len == 0 && liquid_text("").len == 0, name, "an empty text");
+    check(page.partial_count == 0 && page.options == 0, name, "no partials, no options");
     check(page.max_turns == 0 && page.max_bytes == 0, name, "no limits");
     liquid_render(&page, out, sizeof out, message, sizeof message, &got);
     check(got.kind == LIQUID_OK && got.written == 3 && !memcmp(out, "a7c", 3), name, "the page");
     page = liquid_page_of(none, liquid_text("{}"));
     liquid_render(&page, out, 0, message, 0, &got);
     check(got.kind == LIQUID_OK && got.needed == 0, name, "a template of a null pointer");
+}
+
+/* Null pointers with a count of 0, wherever a call takes a pointer with a count. */
+static void try_nulls(void) {
+    static const char *name = "null pointers";
+    liquid_page page = {{NULL, 0}, {NULL, 0}, NULL, 0, LIQUID_STANDARD, 0, 0};
+    const liquid_partial parts[] = {{{NULL, 0}, liquid_text("empty")}, {liquid_text("a"), {NULL, 0}}, {liquid_text("b"), liquid_text("B")}};
+    liquid_bytes globals[3] = {{NULL, 0}, liquid_text("{}"), {NULL, 0}};
+    liquid_outcome each[3];
+    size_t whole;
+    liquid_render(&page, NULL, 0, NULL, 0, &got);
+    check(got.kind == LIQUID_BAD_JSON && got.message_len > 0, name, "globals");
+    page.globals = of("{}");
+    liquid_render(&page, NULL, 0, NULL, 0, &got);
+    check(got.kind == LIQUID_OK && got.needed == 0, name, "a template");
+    page.text = of("{% include '' %}{% include 'a' %}{% include 'b' %}");
+    page.partials = parts, page.partial_count = 3;
+    blocks = 0;
+    liquid_render(&page, out, sizeof out, NULL, 0, &got);
+    check(got.kind == LIQUID_OK && got.written == 6 && !memcmp(out, "emptyB", 6), name, "partials");
+    whole = liquid_render_each(&page, globals, 3, out, sizeof out, NULL, 0, each, 3);
+    check(whole == 1 && each[0].kind == LIQUID_BAD_JSON && each[1].kind == LIQUID_OK && each[2].kind == LIQUID_BAD_JSON, name, "each");
+    check(blocks == 0, name, "a block is left");
+    check(liquid_render_each(&page, NULL, 0, NULL, 0, NULL, 0, NULL, 0) == 0, name, "nothing");
+    for (failing = 1; failing < 3; failing++) {
+        growths = 0;
+        liquid_render(&page, out, sizeof out, NULL, 0, &got);
+        check(got.kind == LIQUID_NO_MEMORY && got.written == 0 && got.message_len == 0, name, "no memory");
+        growths = 0;
+        each[0].kind = each[2].kind = UINT32_MAX;
+        whole = liquid_render_each(&page, globals, 3, out, sizeof out, NULL, 0, each, 2);
+        check(whole == 0 && each[0].kind == LIQUID_NO_MEMORY && each[2].kind == UINT32_MAX, name, "no memory for each");
+        check(blocks == 0, name, "a block is left without memory");
+    }
+    failing = 0;
+}
+
+/* Which limit stops a page that has both. */
+static void try_limits(void) {
+    static const struct { uint64_t turns, bytes; uint32_t limit; } limits[] = {
+        {3, 100, LIQUID_TURNS}, {100, 5, LIQUID_BYTES}, {4, 5, LIQUID_BYTES}, {3, 6, LIQUID_TURNS}, {4, 6, 0}, {0, 0, 0}};
+    liquid_page page = liquid_page_of(liquid_text("{% for i in (1..3) %}{{ i }}.{% endfor %}"), liquid_text("{}"));
+    size_t i;
+    for (i = 0; i < sizeof limits / sizeof limits[0]; i++) {
+        page.max_turns = limits[i].turns, page.max_bytes = limits[i].bytes;
+        liquid_render(&page, out, sizeof out, message, sizeof message, &got);
+        check(got.limit == limits[i].limit && got.kind == (got.limit ? LIQUID_REFUSED : LIQUID_OK), "limits", "which of both");
+    }
 }
 
 /* One template over many globals, with as many outcomes and less room than they want. */
@@ -291,6 +351,8 @@ int main(void) {
     }
     try_names();
     try_texts();
+    try_nulls();
+    try_limits();
     try_each();
     try_growths();
     try_growths_of_each();

@@ -57,7 +57,8 @@ class LiquidError(Exception):
     ``message`` is the text of the error, of one line or more. ``line`` and ``column`` are where it is, from 1, and
     ``None`` if it has no place. ``kind`` is one of ``Kind``, and ``rendered`` is what was rendered before the error.
     ``template`` is the name of the template, or of the partial in which the error is; it is ``None`` for a template
-    without a name. ``source_line`` is the line that has the error, and ``None`` if the error has no place.
+    without a name. ``source_line`` is the line that has the error, and ``None`` if the error has no place. ``limit`` is
+    the name of the argument whose limit stopped the page, ``"max_turns"`` or ``"max_bytes"``, and ``None`` if none did.
 
     ``str()`` returns ``explain()`` for an error of an ``Environment``, and ``message`` for one of ``render`` and
     ``render_each``.
@@ -73,6 +74,7 @@ class LiquidError(Exception):
         template: str | None = None,
         source_line: str | None = None,
         explained: bool = False,
+        limit: str | None = None,
     ) -> None:
         super().__init__(message)
         self.message = message
@@ -82,11 +84,12 @@ class LiquidError(Exception):
         self.rendered = rendered
         self.template = template
         self.source_line = source_line
+        self.limit = limit
         self._explained = explained
 
     def __reduce__(self) -> tuple[Any, ...]:
         place = self.line, self.column, self.kind, self.rendered, self.template, self.source_line
-        return type(self), (self.message, *place, self._explained)
+        return type(self), (self.message, *place, self._explained, self.limit)
 
     def __str__(self) -> str:
         return self.explain() if self._explained else self.message
@@ -140,7 +143,9 @@ class PartialError(RenderError):
 
 
 class LimitError(RenderError):
-    """The page took more than ``max_turns`` turns, or would have written more than ``max_bytes`` bytes."""
+    """The page took more than ``max_turns`` turns, or would have written more than ``max_bytes`` bytes. ``limit`` is the
+    name of the one that it reached.
+    """
 
 
 class DataError(LiquidError):
@@ -168,13 +173,13 @@ _CLASSES = {
 }
 
 
-def class_of(kind: Kind, message: str) -> type[LiquidError]:
+def class_of(kind: Kind, message: str, limit: str | None) -> type[LiquidError]:
     """Returns the class of an error. The message of one of rendering has a place only if a partial can't be read."""
     if kind != Kind.REFUSED:
         return _CLASSES.get(kind, LiquidError)
-    lines = message.split("\n")
-    if lines[0] == "liquid: Rendering was stopped":
+    if limit is not None:
         return LimitError
+    lines = message.split("\n")
     if lines[0] in _CALLS_REFUSED or _PLACE.search(lines[0]) or "from: Filter parsing error" in lines:
         return PartialError
     if lines[0] in _UNDEFINED:

@@ -20,8 +20,9 @@ __all__ = ["Options", "Partials", "Source", "proved", "render_each_source", "ren
 _VERSION = 2
 _SANDBOXED, _LENIENT, _STANDARD, _DECIMALS = 1, 2, 4, 8
 _OK = 0
-# What is not UTF-8: the name of a partial, or its text.
-_OF_PARTIALS = (2, 3)
+# The texts of a page that an outcome names: the globals, the name of a partial, its text.
+_GLOBALS, _OF_PARTIALS = 1, (2, 3)
+_LIMITS = (None, "max_turns", "max_bytes")
 _LEAST_ROOM, _LARGE_ROOM = 1 << 16, 1 << 20
 # A guess is no more than this, since the system may refuse more, though most of it would not be written.
 _MOST_ROOM = 1 << 28
@@ -50,8 +51,11 @@ class _Page(ctypes.Structure):
 
 
 class _Outcome(ctypes.Structure):
-    _fields_ = [("kind", ctypes.c_uint32), ("which", ctypes.c_uint32)] + [
-        (name, ctypes.c_size_t) for name in ("partial", "line", "column", "needed", "written", "message_len")
+    _fields_ = [
+        ("kind", ctypes.c_uint32),
+        ("which", ctypes.c_uint32),
+        *((name, ctypes.c_size_t) for name in ("partial", "line", "column", "needed", "written", "message_len")),
+        ("limit", ctypes.c_uint32),
     ]
 
 
@@ -149,13 +153,9 @@ class Source:
 
     def error(self, outcome: _Outcome, message: str, rendered: bytes, names: bytes) -> LiquidError:
         """Returns the error of a page over these globals."""
-        kind, line, column = Kind(outcome.kind), outcome.line or None, outcome.column or None
-        partials = dict(self.partials.texts)
-        partial = partial_of(message, partials) if kind == Kind.REFUSED else None
-        if kind == Kind.NO_TEXT and outcome.which in _OF_PARTIALS:
-            partial = self.partials.texts[outcome.partial][0]
-        text = names if kind == Kind.BAD_JSON else self.template if partial is None else partials[partial]
-        return class_of(kind, message)(
+        kind, line, column, limit = Kind(outcome.kind), outcome.line or None, outcome.column or None, _LIMITS[outcome.limit]
+        partial, text = self._text_of(outcome, message, names)
+        return class_of(kind, message, limit)(
             message,
             line,
             column,
@@ -165,7 +165,19 @@ class Source:
             self.name if partial is None else partial,
             None if line is None else _line_of(text, line),
             explained=self.name is not None,
+            limit=limit,
         )
+
+    def _text_of(self, outcome: _Outcome, message: str, names: bytes) -> tuple[str | None, bytes]:
+        """Returns the text that an error is in, and the name of the partial whose text it is, if it is one."""
+        if outcome.which in _OF_PARTIALS:
+            return self.partials.texts[outcome.partial]
+        if outcome.kind == Kind.REFUSED and not outcome.line:
+            partials = dict(self.partials.texts)
+            partial = partial_of(message, partials)
+            if partial is not None:
+                return partial, partials[partial]
+        return None, names if outcome.which == _GLOBALS else self.template
 
 
 def _line_of(text: bytes, line: int) -> str:

@@ -39,6 +39,7 @@ def load_tests(loader, tests, pattern):
         name = "liquid_core" if path.stem == "__init__" else f"liquid_core.{path.stem}"
         tests.addTests(doctest.DocTestSuite(importlib.import_module(name)))
     how = {"module_relative": False, "encoding": "utf-8", "parser": Blocks(), "setUp": enter_folder, "tearDown": leave_folder}
+    how["optionflags"] = doctest.ELLIPSIS
     tests.addTests(doctest.DocFileSuite(str(README), **how))
     return tests
 

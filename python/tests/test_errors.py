@@ -48,21 +48,21 @@ class Classes(unittest.TestCase):
         ("a\n{% asign x = 1 %}", TemplateSyntaxError, "Unknown tag.", "page", 2, 4),
         ("{{ 'a' | wrong }}", TemplateSyntaxError, "Unknown filter", "page", 1, 10),
         ("{% assign x = %}", TemplateSyntaxError, "Token expected", "page", 1, 14),
-        ("{{ titel }}", UndefinedError, "Unknown variable", "page", None, None),
-        ("{% assign x = 'a' %}{{ x | append: y }}", UndefinedError, "Unknown variable", "page", None, None),
-        ("{{ post.titel }}", UndefinedError, "Unknown index", "page", None, None),
-        ("{% include 'card' %}", UndefinedError, "Unknown variable", "card", None, None),
-        ("{% include 'outer' %}", UndefinedError, "Unknown variable", "card", None, None),
-        ("{% include 'card', title: wrong %}", UndefinedError, "Unknown variable", "page", None, None),
-        ("{{ 10 | divided_by: 0 }}", FilterError, "Divided by zero", "page", None, None),
-        ("{% render 'divides' %}", FilterError, "Divided by zero", "divides", None, None),
-        ("{% include 'missing' %}", PartialError, "Unknown partial-template", "page", None, None),
-        ("{% include 'calls' %}", PartialError, "Unknown partial-template", "calls", None, None),
-        ("{% include 'tree' %}", PartialError, "Partials nest too deep", "tree", None, None),
+        ("{{ titel }}", UndefinedError, "Unknown variable", "page", 1, 4),
+        ("{% assign x = 'a' %}{{ x | append: y }}", UndefinedError, "Unknown variable", "page", 1, 24),
+        ("{{ post.titel }}", UndefinedError, "Unknown index", "page", 1, 4),
+        ("{% include 'card' %}", UndefinedError, "Unknown variable", "card", 1, 8),
+        ("\n{% include 'outer' %}", UndefinedError, "Unknown variable", "card", 1, 8),
+        ("\n {% include 'card', title: wrong %}", UndefinedError, "Unknown variable", "page", 2, 5),
+        ("{{ 10 | divided_by: 0 }}", FilterError, "Divided by zero", "page", 1, 4),
+        ("\n{% render 'divides' %}", FilterError, "Divided by zero", "divides", 1, 4),
+        ("{% include 'missing' %}", PartialError, "Unknown partial-template", "page", 1, 4),
+        ("\n{% include 'calls' %}", PartialError, "Unknown partial-template", "calls", 1, 4),
+        ("{% include 'tree' %}", PartialError, "Partials nest too deep", "tree", 1, 5),
         ("{% include 'unread' %}", PartialError, "Invalid liquid", "unread", 2, 2),
         ("{% render 'unfit' %}", PartialError, "Unexpected arguments", "unfit", 1, 10),
-        ("{% include post %}", RenderError, "Partial name expected", "page", None, None),
-        ("{% for i in (1..'ten') %}{% endfor %}", RenderError, "Whole number expected", "page", None, None),
+        ("{% include post %}", RenderError, "Partial name expected", "page", 1, 4),
+        ("雨\n雨{% for i in (1..'ten') %}{% endfor %}", RenderError, "Whole number expected", "page", 2, 5),
     ]
 
     def test_rows(self):
@@ -76,10 +76,21 @@ class Classes(unittest.TestCase):
 
     def test_limits(self):
         loop = "{% for i in (1..9) %}{{ i }}{% endfor %}"
-        self.assertIs(type(caught(loop, max_turns=2)), LimitError)
-        self.assertIs(type(caught(loop, max_bytes=2)), LimitError)
-        self.assertEqual(caught(loop, max_bytes=2).rendered, "12")
+        # the limits, the one that stops the page, and what is rendered before
+        rows = [
+            ({"max_turns": 2}, "max_turns", "12"),
+            ({"max_bytes": 2}, "max_bytes", "12"),
+            ({"max_turns": 3, "max_bytes": 4}, "max_turns", "123"),
+            ({"max_turns": 5, "max_bytes": 4}, "max_bytes", "1234"),
+            ({"max_turns": 9, "max_bytes": 9}, "max_turns", "123456789"),
+        ]
+        for limits, name, rendered in rows:
+            error = caught(loop, **limits)
+            self.assertIs(type(error), LimitError)
+            self.assertEqual((error.limit, error.rendered), (name, rendered))
         self.assertIs(type(caught(loop, max_memory=100)), MemoryLimitError)
+        self.assertIsNone(caught("{{ x }}", max_turns=9).limit)
+        self.assertEqual(Environment(max_turns=0, max_bytes=0).from_string(loop).render(), "123456789")
 
     def test_data(self):
         env = Environment(DictLoader({"a": "", "b": b"\xff"}))
@@ -101,7 +112,7 @@ class Classes(unittest.TestCase):
         with self.assertRaises(UndefinedError) as raised:
             render("{% include 'card' %}", {}, PARTS)
         error = raised.exception
-        self.assertEqual((error.template, error.source_line, str(error)), ("card", None, error.message))
+        self.assertEqual((error.template, error.source_line, str(error)), ("card", "<h2>{{ title }}</h2>", error.message))
         (error,) = render_each("a\nb {% wrong %}", [{}])
         self.assertIs(type(error), TemplateSyntaxError)
         self.assertEqual((error.template, error.source_line, str(error)), (None, "b {% wrong %}", error.message))
@@ -121,7 +132,8 @@ class Explanations(unittest.TestCase):
         ("{% if x %}\n", "in page, line 2, column 1\n  \n  ^"),
         ("a" * 100 + "{{ x" + "b" * 100, "in page, line 1, column 101\n  " + "a" * 60 + "{{ x" + "b" * 56 + "\n  " + " " * 60 + "^"),
         ("\x1b[1m {% wrong %}\x7f", "in page, line 1, column 9\n  ?[1m {% wrong %}?\n          ^"),
-        ("{{ x }}", "in page"),
+        ("{{ x }}", "in page, line 1, column 4\n  {{ x }}\n     ^"),
+        ("{% include 'card' %}", "in card, line 1, column 8\n  <h2>{{ title }}</h2>\n         ^"),
         ("{% include 'unread' %}", "in unread, line 2, column 2\n  \t{{ title }</h2>\n  \t^"),
     ]
 
@@ -135,7 +147,7 @@ class Explanations(unittest.TestCase):
     def test_a_name_with_control_characters(self):
         with self.assertRaises(UndefinedError) as raised:
             Environment().from_string("{{ x }}", "a\n\x1b[2J\udc80").render()
-        self.assertEqual(str(raised.exception).split("\n")[0], "in a??[2J?")
+        self.assertEqual(str(raised.exception).split("\n")[0], "in a??[2J?, line 1, column 4")
 
     def test_a_column_of_json_counts_bytes(self):
         with self.assertRaises(DataError) as raised:

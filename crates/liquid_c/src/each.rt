@@ -71,6 +71,7 @@ where
     let mut prepared = prepare_page(alloc, language, page.text, page.partials);
     render_turns::<V, _>(
         alloc,
+        page,
         &mut prepared,
         options,
         globals,
@@ -83,6 +84,7 @@ where
 /// Renders a page that was read over each of these globals.
 fn render_turns<V, R: RenderOver<V>>(
     alloc: Global,
+    asked: &Page<'_>,
     page: &mut R,
     options: PageOptions,
     globals: &[&[u8]],
@@ -97,7 +99,7 @@ fn render_turns<V, R: RenderOver<V>>(
     let mut whole: usize = 0;
     for place in 0..count {
         let rendered = page.render_over(alloc, options, globals[place]);
-        let outcome = finish_turn(alloc, &rendered, used, out, message);
+        let outcome = finish_turn(alloc, asked, &rendered, used, out, message);
         used += outcome.written;
         whole += one_if_whole(&outcome);
         outcomes[place] = outcome;
@@ -108,6 +110,7 @@ fn render_turns<V, R: RenderOver<V>>(
 /// Hands out what was rendered, into the bytes of `out` after those that are used, and returns how the page ended.
 fn finish_turn(
     alloc: Global,
+    asked: &Page<'_>,
     rendered: &Rendered,
     used: usize,
     out: &mut [u8],
@@ -120,7 +123,7 @@ fn finish_turn(
     ensures size { length out.new ≡ length out.old }
 {
     let (_, room) = out.split_at_mut(used);
-    finish(alloc, rendered, room, message)
+    finish(alloc, asked, rendered, room, message)
 }
 
 /// Writes an outcome of this kind for each of these globals, as far as there are outcomes. No page is whole.

@@ -4,5 +4,6 @@
 pub mod each;
 pub mod languages;
 pub mod page;
+mod places;
 pub mod rendering;
 mod repeated;

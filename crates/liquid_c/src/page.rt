@@ -7,7 +7,7 @@ const _: () = prove!(size_of::<Page<'static>>() == 72);
 
 const _: () = prove!(size_of::<PartialBytes<'static>>() == 32);
 
-const _: () = prove!(size_of::<Outcome>() == 56);
+const _: () = prove!(size_of::<Outcome>() == 64);
 
 /// What is rendered, and how.
 #[repr(C)]
@@ -34,17 +34,31 @@ pub const STANDARD: u32 = 4;
 /// A number of the globals with a fraction is a decimal instead of an error.
 pub const DECIMALS: u32 = 8;
 
+/// The number of the template in `Outcome::which`.
+pub const TEMPLATE: u32 = 0;
+/// That of the globals.
+pub const GLOBALS: u32 = 1;
+/// That of a partial's name.
+pub const PARTIAL_NAME: u32 = 2;
+/// That of a partial's text.
+pub const PARTIAL_TEXT: u32 = 3;
+
+/// The number of the limit of turns in `Outcome::limit`.
+pub const TURNS: u32 = 1;
+/// That of the limit of bytes.
+pub const BYTES: u32 = 2;
+
 /// How a page ended.
 #[repr(C)]
 #[derive(Clone, Copy, Debug, PartialEq, Eq)]
 pub struct Outcome {
     /// The kind, as the header numbers them; 0 if the whole page was rendered and is in `out`.
     pub kind: u32,
-    /// Which text is not UTF-8: 0 the template, 1 the globals, 2 a partial's name, 3 a partial's text.
+    /// Which text is not UTF-8, or has the place of the error.
     pub which: u32,
     /// The number of that partial, from 0.
     pub partial: usize,
-    /// The line and the column of an error, from 1; 0 if it has no place.
+    /// The line and the column of an error in that text, from 1; 0 if it has no place.
     pub line: usize,
     pub column: usize,
     /// How many bytes were rendered.
@@ -53,6 +67,8 @@ pub struct Outcome {
     pub written: usize,
     /// How many bytes the text of the error has. `message` has the first of them.
     pub message_len: usize,
+    /// The limit that stopped the page, or 0.
+    pub limit: u32,
 }
 
 /// A whole page without a byte.
@@ -65,4 +81,5 @@ pub const EMPTY: Outcome = Outcome {
     needed: 0,
     written: 0,
     message_len: 0,
+    limit: 0,
 };

@@ -1,12 +1,15 @@
 //! Rendering pages into the caller's memory.
-ghost use Rattle.std.specs.Prelude.{◌≡◌, ◌≤◌, ◌++◌, if◌then◌else◌, length, min, nat_le, take, drop, MatchOption, None};
+ghost use Rattle.std.specs.Prelude.{◌≡◌, ◌≤◌, ◌++◌, if◌then◌else◌, length, min, nat_le, take, drop, IfSome, MatchOption, None, Some};
 ghost use Rattle.liquid_error.specs.meaning.Told.{told};
 ghost use Rattle.liquid_parser.specs.meaning.Plugins.{language_of};
 ghost use Rattle.liquid_template.specs.meaning.Runs.{setting};
 ghost use Rattle.liquid_pages.specs.meaning.Faults.{fault_told};
+ghost use Rattle.liquid_pages.specs.meaning.FaultText.{page_fault_text};
 ghost use Rattle.liquid_pages.specs.meaning.Shown.{Page as Shown, IsShown};
 ghost use Rattle.liquid_c.specs.meaning.Outcomes.{
+  IsLimited,
   IsPlaced,
+  IsSaid,
   IsUnnamed,
   IsWhere,
   IsWhich,
@@ -19,10 +22,13 @@ ghost use Rattle.liquid_c.specs.meaning.Outcomes.{
 ghost use Rattle.liquid_c.specs.steps.Prepared.{AskedComesTo};
 
 use crate::languages::{Chosen, choose_language, page_options};
-use crate::page::{EMPTY, Outcome, Page};
+use crate::page::{
+    BYTES, EMPTY, GLOBALS, Outcome, PARTIAL_NAME, PARTIAL_TEXT, Page, TEMPLATE, TURNS,
+};
+use crate::places::locate;
 use liquid_core::parser::{Discreet, Language, ParseBlock, ParseFilter, ParseTag};
 use liquid_core::{Error, Fresh, Place};
-use liquid_pages::{PageFault, PageText, Rendered, render_page};
+use liquid_pages::{PageFault, PageLimit, PageText, Rendered, render_page};
 use std::alloc::Global;
 use std::rc::Rc;
 use std_marks::Marks;
@@ -84,12 +90,13 @@ where
         page.globals,
         page.partials,
     );
-    finish(alloc, &rendered, out, message)
+    finish(alloc, page, &rendered, out, message)
 }
 
-/// Hands out what was rendered, and returns how the page ended.
+/// Hands out what was rendered of a page, and returns how it ended.
 pub(crate) fn finish(
     alloc: Global,
+    asked: &Page<'_>,
     rendered: &Rendered,
     out: &mut [u8],
     message: &mut [u8],
@@ -115,7 +122,7 @@ pub(crate) fn finish(
                 needed,
                 written,
                 message_len,
-                ..outcome_of(fault)
+                ..outcome_of(fault, rendered.stopped_by, asked)
             }
         }
     }
@@ -128,28 +135,30 @@ fn whole_kind(needed: usize, room: usize) -> u32
     if needed <= room { 0 } else { SHORT }
 }
 
-/// Returns the outcome of a fault: its kind and where it is.
-fn outcome_of(fault: &PageFault) -> Outcome
-    ensures { MatchOption (fault_told fault.now) (OutOfMemory result) (λ f. (result.kind ≡ kind_of f) × IsWhere f result) }
+/// Returns the outcome of a fault of a page, which this limit stopped, if one did: its kind and where it is.
+fn outcome_of(fault: &PageFault, stopped_by: Option<PageLimit>, asked: &Page<'_>) -> Outcome
+    ensures { MatchOption (fault_told fault.now) (OutOfMemory result)
+        (λ f. (result.kind ≡ kind_of f) × (IsWhere f result × IsLimited f result)) }
 {
     match fault {
-        PageFault::Unparsed(error) => outcome_of_error(error, 1),
-        PageFault::Refused(error) => outcome_of_error(error, 2),
+        PageFault::Unparsed(error) => outcome_of_unparsed(error),
+        PageFault::Refused(error) => outcome_of_refused(error, stopped_by, asked),
         PageFault::BadJson(error) => Outcome {
             kind: 3,
+            which: GLOBALS,
             line: error.line(),
             column: error.column(),
             ..EMPTY
         },
-        PageFault::NoGlobals(error) => outcome_of_error(error, 4),
+        PageFault::NoGlobals(error) => outcome_of_globals(error),
         PageFault::NoText(text) => outcome_of_text(*text),
     }
 }
 
-/// Returns the outcome of an error of this kind. Out of memory is a kind of its own.
-fn outcome_of_error(error: &Error, kind: u32) -> Outcome
+/// Returns the outcome of a template that can't be read. Out of memory is a kind of its own.
+fn outcome_of_unparsed(error: &Error) -> Outcome
     ensures { MatchOption (told error.now) (OutOfMemory result)
-        (λ r. (result.kind ≡ kind) × (IsPlaced r.place result × IsUnnamed result)) }
+        (λ r. (result.kind ≡ 1) × ((IsPlaced r.place result × IsUnnamed result) × (result.limit ≡ 0))) }
 {
     if error.is_memory() {
         return Outcome {
@@ -159,13 +168,65 @@ fn outcome_of_error(error: &Error, kind: u32) -> Outcome
     }
     match error.place() {
         Some(Place { line, column }) => Outcome {
-            kind,
+            kind: 1,
             line,
             column,
             ..EMPTY
         },
-        None => Outcome { kind, ..EMPTY },
+        None => Outcome { kind: 1, ..EMPTY },
     }
+}
+
+/// Returns the outcome of an error of rendering. The place that reading a partial found is that of the error.
+fn outcome_of_refused(error: &Error, stopped_by: Option<PageLimit>, asked: &Page<'_>) -> Outcome
+    ensures { MatchOption (told error.now) (OutOfMemory result)
+        (λ r. (result.kind ≡ 2) × (IfSome r.place (λ place. IsPlaced (Some place) result) × (result.limit ≤ 2))) }
+{
+    if error.is_memory() {
+        return Outcome {
+            kind: NO_MEMORY,
+            ..EMPTY
+        };
+    }
+    let refused = Outcome {
+        kind: 2,
+        limit: number_of(stopped_by),
+        ..EMPTY
+    };
+    let located = locate(error, asked, refused);
+    match error.place() {
+        Some(Place { line, column }) => Outcome {
+            line,
+            column,
+            ..located
+        },
+        None => located,
+    }
+}
+
+/// Returns the number of a limit, or 0.
+fn number_of(limit: Option<PageLimit>) -> u32
+    ensures { result ≤ 2 }
+{
+    match limit {
+        None => 0,
+        Some(PageLimit::Turns) => TURNS,
+        Some(PageLimit::Bytes) => BYTES,
+    }
+}
+
+/// Returns the outcome of JSON that is not an object of values, which has no place.
+fn outcome_of_globals(error: &Error) -> Outcome
+    ensures { MatchOption (told error.now) (OutOfMemory result)
+        (λ r. (result.kind ≡ 4) × ((IsPlaced None result × IsUnnamed result) × (result.limit ≡ 0))) }
+{
+    if error.is_memory() {
+        return Outcome {
+            kind: NO_MEMORY,
+            ..EMPTY
+        };
+    }
+    Outcome { kind: 4, ..EMPTY }
 }
 
 /// Returns the outcome of a text that is not UTF-8.
@@ -173,12 +234,13 @@ fn outcome_of_text(text: PageText) -> Outcome
     ensures kind { result.kind ≡ 5 }
     ensures which { IsWhich text result }
     ensures place { IsPlaced None result }
+    ensures limit { result.limit ≡ 0 }
 {
     let (which, partial) = match text {
-        PageText::Template => (0, 0),
-        PageText::Globals => (1, 0),
-        PageText::PartialName(place) => (2, place),
-        PageText::PartialText(place) => (3, place),
+        PageText::Template => (TEMPLATE, 0),
+        PageText::Globals => (GLOBALS, 0),
+        PageText::PartialName(place) => (PARTIAL_NAME, place),
+        PageText::PartialText(place) => (PARTIAL_TEXT, place),
     };
     Outcome {
         kind: 5,
@@ -189,8 +251,10 @@ fn outcome_of_text(text: PageText) -> Outcome
 }
 
 /// Writes the text of a fault, and returns how many bytes it has; 0 if there is no memory for it.
-fn write_message(alloc: Global, fault: &PageFault, message: &mut [u8]) -> usize {
-    match format!(in alloc; "{fault}") {
+fn write_message(alloc: Global, fault: &PageFault, message: &mut [u8]) -> usize
+    ensures { IsSaid (page_fault_text fault.now) result }
+{
+    match fault.to_string(alloc) {
         Ok(text) => {
             copy_front(text.as_bytes(), message);
             text.len()

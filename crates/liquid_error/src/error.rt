@@ -1,13 +1,15 @@
 //! The error type of the engine, and what can be added to an error.
-ghost use Rattle.std.specs.Prelude.{◌≡◌, ◌↔◌, IsTrue, IsNone, None, Some, IfSome, option_map, option_and_then, string_bytes};
+ghost use Rattle.std.specs.Prelude.{◌≡◌, ◌↔◌, IsTrue, IsNone, None, Some, IfSome, map, option_map, option_and_then, string_bytes};
 ghost use Rattle.liquid_error.specs.meaning.Refusal.{plain, located, or_placed, with_trace, with_context};
 ghost use Rattle.liquid_error.specs.meaning.Refusal.{with_cause, cause_of_told, chained};
 ghost use Rattle.liquid_error.specs.meaning.ErrorText.{lossy_chained};
+ghost use Rattle.liquid_error.specs.meaning.Sites.{at_known_node, error_here, error_sites, site_of, sites_within};
 ghost use Rattle.liquid_error.specs.meaning.Told.{told, reason_of, source_reason, Becomes};
 
 use crate::cause::{Cause, CauseOf, CloneableError};
 use crate::place::Place;
 use crate::report::Report;
+use crate::site::{Site, Spot};
 use std::alloc::{AllocError, AllocFailed, Global};
 
 /// The result of a call that can fail with a Liquid error.
@@ -196,13 +198,69 @@ impl Error {
         }
     }
 
-    /// Returns the place in a text that the error is about, if there is one.
+    /// Returns the place in a text that the error is about, if there is one. For an error in a partial, it is a place in
+    /// the partial's text.
     pub fn place(&self) -> Option<Place>
         ensures { result ≡ option_and_then (λ r. r.place) (told self.now) }
     {
         match self {
             Error::Memory => None,
-            Error::Liquid(report, _) => report.place,
+            Error::Liquid(report, _) => report.location.place(),
+        }
+    }
+
+    /// Sets the node that failed, if no position in the text at hand is known: the one that begins where this many bytes
+    /// are left of the text. `0` is no node. What the error says stays as it is.
+    #[inline(never)]
+    pub fn at_node(self, left: u32) -> Error
+        ensures says { told result ≡ told self }
+        ensures here { IfSome (told self) (λ _. error_here result ≡ at_known_node left (error_here self)) }
+        ensures sites { error_sites result ≡ error_sites self }
+    {
+        if left == 0 {
+            return self;
+        }
+        match self {
+            Error::Memory => Error::Memory,
+            Error::Liquid(report, cause) => Error::Liquid(report.at_node(left), cause),
+        }
+    }
+
+    /// Returns the error, seen from the text that renders this partial: a position in the text at hand is one in the
+    /// partial's text. What the error says stays as it is.
+    #[inline(never)]
+    pub fn within(self, alloc: Global, partial: &str) -> Error
+        ensures says { Becomes (λ r. r) self result }
+        ensures here { error_here result ≡ None }
+        ensures sites { IfSome (told result) (λ _. error_sites result ≡ sites_within partial.now (error_here self) (error_sites self)) }
+    {
+        match self {
+            Error::Memory => Error::Memory,
+            Error::Liquid(report, cause) => match report.within(alloc, partial) {
+                Ok(report) => Error::Liquid(report, cause),
+                Err(_) => Error::Memory,
+            },
+        }
+    }
+
+    /// Returns where the error is in the text that was read or rendered: in a node that renders a partial, if it is in a
+    /// partial.
+    pub fn here(&self) -> Option<Spot>
+        ensures { result ≡ error_here self.now }
+    {
+        match self {
+            Error::Memory => None,
+            Error::Liquid(report, _) => report.location.here(),
+        }
+    }
+
+    /// Returns where the error is in the partials around it, the innermost first.
+    pub fn sites(&self) -> &[Site]
+        ensures { map site_of result.now ≡ error_sites self.now }
+    {
+        match self {
+            Error::Memory => &[],
+            Error::Liquid(report, _) => report.location.sites(),
         }
     }
 }

@@ -1,4 +1,5 @@
 pub mod Faults
+pub mod FaultText
 pub mod Globals
 pub mod Limited
 pub mod Pages

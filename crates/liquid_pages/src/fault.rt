@@ -1,4 +1,6 @@
 //! Why a page is not rendered, or not to its end.
+ghost use Rattle.std.specs.Prelude.{Some};
+ghost use Rattle.liquid_pages.specs.meaning.FaultText.{page_fault_text, text_name};
 
 use liquid_error::Error;
 use std::fmt;
@@ -13,6 +15,8 @@ pub enum PageText {
 }
 
 impl fmt::Display for PageText {
+    ghost output = { λ text. Some (text_name text) };
+
     fn fmt<W: fmt::Write>(&self, f: &mut fmt::Formatter<W>) -> fmt::Result {
         match self {
             PageText::Template => write!(f, "the template"),
@@ -38,7 +42,10 @@ pub enum PageFault {
     Refused(Error),
 }
 
+/// An error is written as it prints itself, and any other fault is a line. The texts of bad JSON are those of `serde_json`.
 impl fmt::Display for PageFault {
+    ghost output = { λ fault. page_fault_text fault };
+
     fn fmt<W: fmt::Write>(&self, f: &mut fmt::Formatter<W>) -> fmt::Result {
         match self {
             PageFault::NoText(text) => writeln!(f, "liquid: {text} is not UTF-8"),

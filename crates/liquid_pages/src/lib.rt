@@ -3,6 +3,7 @@
 #![tactic(auto)]
 
 pub mod fault;
+pub mod gate;
 pub mod gather;
 pub mod globals;
 pub mod options;
@@ -13,6 +14,7 @@ pub mod rendering;
 mod within;
 
 pub use fault::{PageFault, PageText};
+pub use gate::PageLimit;
 pub use gather::PartialBytes;
 pub use globals::globals_of;
 pub use options::{PageFrame, PageOptions};

@@ -217,6 +217,7 @@ where
         ≡ option_map ⟦<Partials<F, T, B> as PartialStore<F::Filter, T::Node, B::Node>>⟧.finds store.old }
 {
     let mut output = TextSink::new(alloc);
+    let mut stopped_by = None;
     let used = mem::replace(store, None);
     let (answer, back) = render_over_store::<V, F, T, B, InMemorySource, TextSink>(
         alloc,
@@ -225,10 +226,12 @@ where
         globals,
         used,
         &mut output,
+        &mut stopped_by,
     );
     *store = back;
     Rendered {
         output,
         end: ended(answer),
+        stopped_by,
     }
 }

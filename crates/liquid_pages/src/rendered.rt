@@ -3,15 +3,17 @@ ghost use Rattle.std.specs.Prelude.{◌≡◌, [], Err};
 ghost use Rattle.liquid_pages.specs.meaning.Shown.{ended};
 
 use crate::fault::PageFault;
+use crate::gate::PageLimit;
 use liquid_error::Error;
 use liquid_template::{Sink, TextSink};
 use std::alloc::Global;
 
-/// What was rendered of a page, and whether it was rendered to its end.
+/// What was rendered of a page, whether it was rendered to its end, and the limit that stopped it, if one did.
 #[derive(Drop)]
 pub struct Rendered {
     pub output: TextSink,
     pub end: Result<(), PageFault>,
+    pub stopped_by: Option<PageLimit>,
 }
 
 /// Returns how a page ends when its rendering ends in this way.
@@ -32,5 +34,6 @@ pub(crate) fn nothing(alloc: Global, fault: PageFault) -> Rendered
     Rendered {
         output: TextSink::new(alloc),
         end: Err(fault),
+        stopped_by: None,
     }
 }

@@ -16,6 +16,7 @@ ghost use Rattle.liquid_pages.specs.meaning.Pages.{
   RendersTemplate,
 };
 
+use crate::gate::PageLimit;
 use crate::options::{PageFrame, PageOptions, room_of};
 use crate::within::{render_in_room, render_isolated_in_room, render_sandboxed_in_room};
 use liquid_error::Error;
@@ -57,6 +58,7 @@ where
 }
 
 /// Renders a text in this language, over these globals and these partials, with these options, and writes the result.
+/// `stopped_by` gets the limit that ended it, if one did.
 ///
 /// A text that can't be parsed is an error before anything is written. What was written before any other error stays
 /// written, and a failure of the sink is the error "Failed to render".
@@ -69,6 +71,7 @@ pub fn render_text<V, F, T, B, S, K>(
     globals: Object,
     partials: Option<S>,
     sink: &mut K,
+    stopped_by: &mut Option<PageLimit>,
 ) -> Result<(), Error>
 where
     V: Fresh,
@@ -88,7 +91,7 @@ where
 {
     let template = read_template(alloc, text, language)?;
     render_template::<V, F, T, B, S, K>(
-        alloc, options, &template, language, globals, partials, sink,
+        alloc, options, &template, language, globals, partials, sink, stopped_by,
     )
 }
 
@@ -102,6 +105,7 @@ pub fn render_template<V, F, T, B, S, K>(
     globals: Object,
     partials: Option<S>,
     sink: &mut K,
+    stopped_by: &mut Option<PageLimit>,
 ) -> Result<(), Error>
 where
     V: Fresh,
@@ -121,7 +125,7 @@ where
     match store_of(alloc, language, partials) {
         Ok(store) => {
             let (answer, _store) = render_over_store::<V, F, T, B, S, K>(
-                alloc, options, template, globals, store, sink,
+                alloc, options, template, globals, store, sink, stopped_by,
             );
             answer
         }
@@ -138,6 +142,7 @@ pub fn render_over_store<V, F, T, B, S, K>(
     globals: Object,
     store: Option<LazyStore<S, F, T, B>>,
     sink: &mut K,
+    stopped_by: &mut Option<PageLimit>,
 ) -> (Result<(), Error>, Option<LazyStore<S, F, T, B>>)
 where
     V: Fresh,
@@ -161,7 +166,7 @@ where
     match options.frame {
         PageFrame::Open => {
             let mut runtime = runtime_of::<V, F, T, B, S>(alloc, lenient, globals, store);
-            let answer = render_in_room(alloc, room, template, &mut runtime, sink);
+            let answer = render_in_room(alloc, room, template, &mut runtime, sink, stopped_by);
             (answer, runtime.into_partials())
         }
         PageFrame::Sandboxed => {
@@ -173,6 +178,7 @@ where
                 &mut runtime,
                 globals,
                 sink,
+                stopped_by,
             );
             (answer, runtime.into_partials())
         }
@@ -185,6 +191,7 @@ where
                 &mut runtime,
                 globals,
                 sink,
+                stopped_by,
             );
             (answer, runtime.into_partials())
         }

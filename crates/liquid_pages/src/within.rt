@@ -1,15 +1,16 @@
-//! Rendering as far as limits leave room.
+//! Rendering as far as limits leave room. `stopped_by` gets the limit that ended it, if one did.
 ghost use Rattle.std.specs.Prelude.{◌≡◌, None, Some};
 ghost use Rattle.liquid_template.specs.meaning.OfTypes.{isolated_of, sandboxed_of, template_of};
 ghost use Rattle.liquid_template.specs.meaning.Partials.{partials_of};
 ghost use Rattle.liquid_pages.specs.meaning.Limited.{fresh_gate, limited};
 ghost use Rattle.liquid_pages.specs.steps.RoomRuns.{RendersOn};
 
+use crate::gate::{PageGate, PageLimit};
 use crate::options::Room;
 use liquid_error::Error;
 use liquid_plugins::{Discreet, Filter, Renderable};
 use liquid_runtime::Runtime;
-use liquid_template::{Gate, GatedSink, Limits, PartialStore, Sink, Template};
+use liquid_template::{Gate, GatedSink, PartialStore, Sink, Template};
 use liquid_value::Object;
 use std::alloc::Global;
 
@@ -20,6 +21,7 @@ pub(crate) fn render_in_room<X, T, B, R, K>(
     template: &Template<X, T, B>,
     runtime: &mut R,
     sink: &mut K,
+    stopped_by: &mut Option<PageLimit>,
 ) -> Result<(), Error>
 where
     X: Filter,
@@ -36,8 +38,9 @@ where
     match room {
         None => template.render_to(alloc, sink, runtime),
         Some(room) => {
-            let mut page = GatedSink::new(sink, Limits::new(room.turns, room.bytes));
+            let mut page = GatedSink::new(sink, PageGate::new(room));
             let answer = render_limited(alloc, room, template, runtime, &mut page);
+            *stopped_by = page.gate().refused;
             let _sink = page.into_sink();
             answer
         }
@@ -50,7 +53,7 @@ fn render_limited<X, T, B, R, K>(
     room: Room,
     template: &Template<X, T, B>,
     runtime: &mut R,
-    page: &mut GatedSink<&mut K, Limits>,
+    page: &mut GatedSink<&mut K, PageGate>,
 ) -> Result<(), Error>
 where
     X: Filter,
@@ -59,7 +62,7 @@ where
     R: Runtime,
     R::Store: PartialStore<X, T, B>,
     K: Sink,
-    requires { ⟦<Limits as Gate>⟧.gated page.old.gate ≡ fresh_gate room }
+    requires { ⟦<PageGate as Gate>⟧.gated page.old.gate ≡ fresh_gate room }
     ensures renders { RendersOn R.view K.sunk (limited (Some room)
         (template_of R.Register.fresh X.Filter T.Renderable B.Renderable R.Store.finds (R.store runtime.old) template.now))
         runtime.old runtime.new page.old.sink.now page.new.sink.now result }
@@ -77,6 +80,7 @@ pub(crate) fn render_sandboxed_in_room<X, T, B, R, K>(
     runtime: &mut R,
     data: Object,
     sink: &mut K,
+    stopped_by: &mut Option<PageLimit>,
 ) -> Result<(), Error>
 where
     X: Filter,
@@ -93,8 +97,9 @@ where
     match room {
         None => template.render_sandboxed(alloc, sink, runtime, data, None),
         Some(room) => {
-            let mut page = GatedSink::new(sink, Limits::new(room.turns, room.bytes));
+            let mut page = GatedSink::new(sink, PageGate::new(room));
             let answer = render_sandboxed_limited(alloc, room, template, runtime, data, &mut page);
+            *stopped_by = page.gate().refused;
             let _sink = page.into_sink();
             answer
         }
@@ -108,7 +113,7 @@ fn render_sandboxed_limited<X, T, B, R, K>(
     template: &Template<X, T, B>,
     runtime: &mut R,
     data: Object,
-    page: &mut GatedSink<&mut K, Limits>,
+    page: &mut GatedSink<&mut K, PageGate>,
 ) -> Result<(), Error>
 where
     X: Filter,
@@ -117,7 +122,7 @@ where
     R: Runtime,
     R::Store: PartialStore<X, T, B>,
     K: Sink,
-    requires { ⟦<Limits as Gate>⟧.gated page.old.gate ≡ fresh_gate room }
+    requires { ⟦<PageGate as Gate>⟧.gated page.old.gate ≡ fresh_gate room }
     ensures renders { RendersOn R.view K.sunk (limited (Some room)
         (sandboxed_of R.Register.fresh X.Filter T.Discreet B.Discreet R.Store.finds (R.store runtime.old) template.now «data» None))
         runtime.old runtime.new page.old.sink.now page.new.sink.now result }
@@ -135,6 +140,7 @@ pub(crate) fn render_isolated_in_room<X, T, B, R, K>(
     runtime: &mut R,
     data: Object,
     sink: &mut K,
+    stopped_by: &mut Option<PageLimit>,
 ) -> Result<(), Error>
 where
     X: Filter,
@@ -151,8 +157,9 @@ where
     match room {
         None => template.render_isolated(alloc, sink, runtime, data, None),
         Some(room) => {
-            let mut page = GatedSink::new(sink, Limits::new(room.turns, room.bytes));
+            let mut page = GatedSink::new(sink, PageGate::new(room));
             let answer = render_isolated_limited(alloc, room, template, runtime, data, &mut page);
+            *stopped_by = page.gate().refused;
             let _sink = page.into_sink();
             answer
         }
@@ -166,7 +173,7 @@ fn render_isolated_limited<X, T, B, R, K>(
     template: &Template<X, T, B>,
     runtime: &mut R,
     data: Object,
-    page: &mut GatedSink<&mut K, Limits>,
+    page: &mut GatedSink<&mut K, PageGate>,
 ) -> Result<(), Error>
 where
     X: Filter,
@@ -175,7 +182,7 @@ where
     R: Runtime,
     R::Store: PartialStore<X, T, B>,
     K: Sink,
-    requires { ⟦<Limits as Gate>⟧.gated page.old.gate ≡ fresh_gate room }
+    requires { ⟦<PageGate as Gate>⟧.gated page.old.gate ≡ fresh_gate room }
     ensures renders { RendersOn R.view K.sunk (limited (Some room)
         (isolated_of R.Register.fresh X.Filter T.Renderable B.Renderable R.Store.finds (R.store runtime.old) template.now «data» None))
         runtime.old runtime.new page.old.sink.now page.new.sink.now result }

@@ -138,36 +138,36 @@ module _ {X N K F T B : Type 0} (filter : X → F) (tag : N → T) (block : K �
   is_text n bytes (inl made) = ap (node_of filter tag block) made.1 ∙ (text_shape made.0 ∙ ap text_node made.2)
   is_text n bytes (inr made) = ap (node_of filter tag block) made.1 ∙ (brief_shape made.0 ∙ ap text_node made.2)
 
-  pub name_shape : (s : ArrayString) → node_of filter tag block (Name s) ≡ chain_node (name_chain s.bytes)
+  pub name_shape : (left : ℕ) (s : ArrayString) → node_of filter tag block (Name left s) ≡ chain_node (name_chain s.bytes)
   unfolding node_of
-  name_shape s =
-      ap (node_of filter tag block) (sym (rolls-Name s)) ∙ code.fold-roll-Node X N K (NodeShape F T B) (node_step filter tag block) _
+  name_shape left s =
+      ap (node_of filter tag block) (sym (rolls-Name left s)) ∙ code.fold-roll-Node X N K (NodeShape F T B) (node_step filter tag block) _
 
-  pub chain_shape : (c : FilterChain X) → node_of filter tag block (Chain c) ≡ chain_node (chain_of filter c)
+  pub chain_shape : (left : ℕ) (c : FilterChain X) → node_of filter tag block (Chain left c) ≡ chain_node (chain_of filter c)
   unfolding node_of
-  chain_shape c =
-      ap (node_of filter tag block) (sym (rolls-Chain c)) ∙ code.fold-roll-Node X N K (NodeShape F T B) (node_step filter tag block) _
+  chain_shape left c =
+      ap (node_of filter tag block) (sym (rolls-Chain left c)) ∙ code.fold-roll-Node X N K (NodeShape F T B) (node_step filter tag block) _
 
-  pub tag_shape : (made : N) → node_of filter tag block (Tag made) ≡ tag_node (tag made)
+  pub tag_shape : (left : ℕ) (made : N) → node_of filter tag block (Tag left made) ≡ tag_node (tag made)
   unfolding node_of
-  tag_shape made =
-      ap (node_of filter tag block) (sym (rolls-Tag made)) ∙ code.fold-roll-Node X N K (NodeShape F T B) (node_step filter tag block) _
+  tag_shape left made =
+      ap (node_of filter tag block) (sym (rolls-Tag left made)) ∙ code.fold-roll-Node X N K (NodeShape F T B) (node_step filter tag block) _
 
-  pub block_shape : (made : K) (ps : Vec (Vec (code.Node X N K) Global) Global)
-      → node_of filter tag block (Block made ps) ≡ block_with (block made) (map (λ v. shapes_of filter tag block v.items) ps.items)
+  pub block_shape : (left : ℕ) (made : K) (ps : Vec (Vec (code.Node X N K) Global) Global)
+      → node_of filter tag block (Block left made ps) ≡ block_with (block made) (map (λ v. shapes_of filter tag block v.items) ps.items)
   unfolding node_of
-  block_shape made ps =
-      ap (node_of filter tag block) (sym (rolls-Block made ps))
+  block_shape left made ps =
+      ap (node_of filter tag block) (sym (rolls-Block left made ps))
       ∙ (code.fold-roll-Node X N K (NodeShape F T B) (node_step filter tag block) _
       ∙ ap (λ q. block_node (block made) (parts_from q)) (map_twice _ (λ ns. nodes_from ns.items)
       (λ v. nodes_from (shapes_of filter tag block v.items)) (λ v. refl) ps.items
       ∙ sym (map_twice (λ v. shapes_of filter tag block v.items) nodes_from (λ v. nodes_from (shapes_of filter tag block v.items))
       (λ v. refl) ps.items)))
 
-  pub bare_block_shape : (made : K) (ps : Vec (Vec (code.Node X N K) Global) Global) → ps.items ≡ []
-      → node_of filter tag block (Block made ps) ≡ block_with (block made) []
-  bare_block_shape made ps none =
-      block_shape made ps ∙ ap (λ xs. block_with (block made) (map (λ v. shapes_of filter tag block v.items) xs)) none
+  pub bare_block_shape : (left : ℕ) (made : K) (ps : Vec (Vec (code.Node X N K) Global) Global) → ps.items ≡ []
+      → node_of filter tag block (Block left made ps) ≡ block_with (block made) []
+  bare_block_shape left made ps none =
+      block_shape left made ps ∙ ap (λ xs. block_with (block made) (map (λ v. shapes_of filter tag block v.items) xs)) none
 
 -- one more part, counted
 pub count_parts : {A C : Type 0} (f : A → C) (old : List A) (a : A) {new : List A} → new ≡ old ++ a ∷ []

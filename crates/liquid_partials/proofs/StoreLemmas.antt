@@ -9,7 +9,7 @@ use Rattle.liquid_runtime.proofs.MapLaws.{same_names}
 use Rattle.liquid_plugins.specs.meaning.Nodes.{NodeShape, Nodes}
 use Rattle.liquid_parser.specs.meaning.Lang.{Lang}
 use Rattle.liquid_parser.specs.meaning.Reading.{Reads, answer}
-use Rattle.liquid_template.specs.meaning.Partials.{partial_in, tree_in, read_tree, unknown_partial}
+use Rattle.liquid_template.specs.meaning.Partials.{Found, partial_in, tree_in, read_tree, unknown_partial}
 use Rattle.liquid_partials.specs.meaning.Sources.{Texts}
 use Rattle.liquid_partials.specs.meaning.Compiled.{as_tree, FoundAs, Compiled, OneStore}
 use Rattle.liquid_partials.specs.meaning.Kept.{reading, readings, tried}
@@ -48,8 +48,11 @@ module _ {F T P B : Type 0} (l : Lang F T P B) where
   same_found None a b h k = k ∙ sym h
   same_found (Some text) a b h k = k.2 ∙ ap (λ x. Some (as_tree x)) (one_answer text k.0 k.1 ∙ sym (one_answer text h.0 h.1)) ∙ sym h.2
 
-  pub one_store : OneStore l
+  pub one_store : (texts : Texts) (finds others : Found F T B) → Compiled l texts finds → Compiled l texts others → others ≡ finds
   one_store texts finds others h k = same_names _ _ (λ q. same_found (get texts q) (get finds q) (get others q) (h q) (k q))
+
+  pub the_store : OneStore l
+  the_store texts = (readings l texts, compiled texts, λ others k. one_store texts (readings l texts) others (compiled texts) k)
 
   abbrev tried_of : Option (Result (Nodes F T B) Refusal) → Result (Option (Nodes F T B)) Refusal
   tried_of found = elim found [ None ↦ Ok None | Some answer ↦ ok_then answer (λ tree. Ok (Some tree)) ]

@@ -8,7 +8,7 @@ use liquid_parser::{Language, ParseBlock, ParseTag};
 use liquid_plugins::ParseFilter;
 use liquid_template::PartialStore;
 
-/// What a store finds is determined by its source and its language.
+/// Each source has a store in a language, and what it finds is determined by both.
 pub fn one_store<F: ParseFilter + Drop, T: ParseTag<F> + Drop, B: ParseBlock<F> + Drop>(
     language: &Language<F, T, B>,
 )

@@ -13,3 +13,4 @@ pub mod EndingLemmas
 pub mod RequestsLemmas
 pub mod StepsLemmas
 pub mod GivenLemmas
+pub mod TogetherLemmas

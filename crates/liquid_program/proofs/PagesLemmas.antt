@@ -44,6 +44,7 @@ use Rattle.liquid_program.specs.declared.fault.Fault.TheVariants.{
   Unreadable,
   UnreadableInFolder,
   Unwritable,
+  OwnFile,
   BadJson,
   NoGlobals,
 }
@@ -84,6 +85,7 @@ fault_is_one Usage = λ zero. omega (arith, zero)
 fault_is_one (Unreadable path) = λ zero. omega (arith, zero)
 fault_is_one (UnreadableInFolder path) = λ zero. omega (arith, zero)
 fault_is_one (Unwritable path) = λ zero. omega (arith, zero)
+fault_is_one (OwnFile path) = λ zero. omega (arith, zero)
 fault_is_one (BadJson path note) = λ zero. omega (arith, zero)
 fault_is_one (NoGlobals error note) = λ zero. omega (arith, zero)
 

@@ -10,7 +10,15 @@ use Rattle.std.specs.FinMap.{empty, keys}
 use Rattle.liquid_plugins.specs.meaning.Registry.{by_name}
 use Rattle.liquid_pages.specs.meaning.Globals.{json_object}
 use Rattle.liquid_program.specs.declared.fault.Fault.{Fault}
-use Rattle.liquid_program.specs.declared.fault.Fault.TheVariants.{Refused, Explained, Usage, Unreadable, UnreadableInFolder, Unwritable}
+use Rattle.liquid_program.specs.declared.fault.Fault.TheVariants.{
+  Refused,
+  Explained,
+  Usage,
+  Unreadable,
+  UnreadableInFolder,
+  Unwritable,
+  OwnFile,
+}
 use Rattle.liquid_program.specs.declared.fault.Fault.TheVariants.{BadJson, NoGlobals}
 use Rattle.liquid_program.specs.meaning.Command.{option_words}
 use Rattle.liquid_program.specs.meaning.Files.{Request, Requests, also, listing, reading}
@@ -40,6 +48,7 @@ reported_status Usage trouble is = absurd (true≢false (sym (ap is_some is)))
 reported_status (Unreadable path) trouble is = refl
 reported_status (UnreadableInFolder path) trouble is = refl
 reported_status (Unwritable path) trouble is = absurd (true≢false (sym (ap is_some is)))
+reported_status (OwnFile path) trouble is = absurd (true≢false (sym (ap is_some is)))
 reported_status (BadJson path note) trouble is = refl
 reported_status (NoGlobals error note) trouble is = refl
 

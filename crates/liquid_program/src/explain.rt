@@ -4,7 +4,6 @@ ghost use Rattle.std.specs.Prelude.{◌≡◌};
 use crate::command::Paths;
 use crate::fault::Fault;
 use crate::folder::{Folder, Why};
-use liquid_core::{Error, Place};
 use std::alloc::Global;
 use std::io::Write;
 
@@ -40,11 +39,11 @@ pub fn explain<F: Folder, E: Write>(
             write_note(note.as_str(), err);
             let _ = writeln!(err, "  in {}", paths.globals);
         }
-        Fault::Unwritable(_) => write_template(paths, err),
-        Fault::Explained(error, note) => {
-            explain_place(alloc, error, err);
-            write_note(note.as_str(), err);
-            write_template(paths, err);
+        Fault::Unwritable(_) | Fault::OwnFile(_) => write_template(paths, err),
+        Fault::Explained(_, notes) => {
+            for line in notes.as_str().lines() {
+                write_note(line, err);
+            }
         }
         Fault::Refused(error) => if !error.is_memory() {
             write_template(paths, err);
@@ -63,22 +62,6 @@ fn write_note<E: Write>(note: &str, err: &mut E) {
     if !note.is_empty() {
         let _ = write!(err, "  ");
         write_cut(note, err);
-    }
-}
-
-/// Writes the place that an error is about, if its text doesn't have it.
-fn explain_place<E: Write>(alloc: Global, error: &Error, err: &mut E) {
-    let Some(Place { line, column }) = error.place() else {
-        return;
-    };
-    let Ok(text) = format!(in alloc; "{error}") else {
-        return;
-    };
-    let Ok(place) = format!(in alloc; "(line {line}, column {column})") else {
-        return;
-    };
-    if !text.as_str().contains(place.as_str()) {
-        let _ = writeln!(err, "  at line {line}, column {column}");
     }
 }
 

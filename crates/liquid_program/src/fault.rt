@@ -24,6 +24,9 @@ pub enum Fault<'w> {
     /// The page can't be written to the file at this path.
     #[error("liquid: cannot write {0}\n")]
     Unwritable(String),
+    /// The page is not written to the file at this path, which is its template or has its globals.
+    #[error("liquid: cannot write {0}: the page is made from it\n")]
+    OwnFile(String),
     /// The text of the file at this path is not JSON, which this line explains.
     #[error("liquid: bad JSON in {0}\n")]
     BadJson(&'w str, String),
@@ -40,7 +43,8 @@ impl Fault<'_> {
         ensures { result ≡ fault_status self.now }
     {
         match self {
-            Fault::Refused(_) | Fault::Explained(..) | Fault::Unwritable(_) => 1,
+            Fault::Refused(_) | Fault::Explained(..) | Fault::Unwritable(_) | Fault::OwnFile(_) =>
+                1,
             Fault::Usage => 2,
             Fault::Unreadable(_)
             | Fault::UnreadableInFolder(_)

@@ -80,6 +80,11 @@ pub trait Folder {
         Err(Unread::Fault)
     }
 
+    /// Returns `true` if both paths lead to one file. By default they do if they are alike.
+    fn is_same_file(&self, first: &str, second: &str) -> bool {
+        first == second
+    }
+
     /// Says, where someone may watch, that this page of so many is next. By default it says nothing.
     fn announce(&mut self, _page: usize, _count: usize, _template: &str)
         ensures same { known self.new ≡ known self.old }
@@ -91,6 +96,7 @@ pub trait Folder {
     /// default that is unknown.
     fn why(&mut self, _path: &str, _is_listed: bool) -> Why
         ensures same { known self.new ≡ known self.old }
+        ensures listed { listed self.new ≡ listed self.old }
         ensures requests { requests self.new ≡ requests self.old }
     {
         Why::Unknown

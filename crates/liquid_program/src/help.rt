@@ -12,18 +12,18 @@ const HELP: &str = "usage: liquid render [OPTION..] TEMPLATE GLOBALS.json [DIR]
 TEMPLATE       a file of Liquid, in UTF-8
 GLOBALS.json   a file with one JSON object: its members are the names that the template sees
 DIR            a folder: each file directly in it is a partial, under the file's name
---sandboxed    the template can't change its names
+--sandboxed    the template is rendered in a sandbox; what it assigns it sees only with --standard
 --lenient      a missing name or index is nil instead of an error
 --standard     the template has the tags, blocks and filters of standard Liquid
 --decimals     a number of GLOBALS.json with a fraction is a decimal instead of an error
---turns N      the page may take N turns of tags and blocks
---bytes N      the page may write N bytes
+--turns N      the page may take N turns of tags and blocks; 0 is no limit
+--bytes N      the page may write N bytes; 0 is no limit
 --explain      an error says more: why a file can't be read, where a text is not JSON, where an open block begins, which
-               names are similar, which template it is
+               names are similar, which limit is reached, which template it is
 --ext .EXT     only files of DIR that end in .EXT are partials, under their names without it, and so are those in folders
                of DIR: 'nav/item' is DIR/nav/item.EXT. Nothing else is read. Links in DIR are passed over
--o FILE        the page is written to FILE, which is replaced only if the page is whole. FILE/ is a folder: the page gets
-               the name of the template there
+-o FILE        the page is written to FILE, which is replaced only if the page is whole, and not if it is TEMPLATE or
+               GLOBALS.json. FILE/ is a folder: the page gets the name of the template there
 
 With --globals there may be many templates, and -o names an existing folder: each page gets the name of its template
 there. The globals and the partials are read once. A page with an error is reported, and the others are still written.

@@ -4,12 +4,19 @@ use json::{Reader, Scratch, Token};
 use serde_json::{Error, Map, Value as Json};
 use std::alloc::{AllocError, Global};
 
+/// What some editors put before a text, and JSON doesn't have.
+const BYTE_ORDER_MARK: char = '\u{feff}';
+
 /// How many arrays and objects may be nested.
 const MOST_NESTED: usize = 127;
 
-/// Returns where a text is not JSON, and whether that is because it is nested too deep. Returns nothing if memory runs
-/// out.
+/// Returns where a text is not JSON, and whether that is because it is nested too deep or begins with a byte order mark.
+/// Returns nothing if memory runs out.
 pub(crate) fn note_of_text(alloc: Global, text: &str, error: &Error) -> String {
+    if text.starts_with(BYTE_ORDER_MARK) {
+        let note = format!(in alloc; "{error}: the text begins with a byte order mark");
+        return note.unwrap_or(String::new(alloc));
+    }
     let note = match is_too_deep(alloc, text) {
         Ok(true) => format!(in alloc;
             "{error}: more than {MOST_NESTED} arrays and objects are nested"

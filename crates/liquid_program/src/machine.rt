@@ -150,6 +150,16 @@ impl<R: Files + AllocGlobal + Eprint + Clone + Drop> Folder for Machine<'_, R> {
         }
     }
 
+    fn is_same_file(&self, first: &str, second: &str) -> bool {
+        match (
+            fs::canonicalize(self.rt, first),
+            fs::canonicalize(self.rt, second),
+        ) {
+            (Ok(first), Ok(second)) => first == second,
+            _ => first == second,
+        }
+    }
+
     fn announce(&mut self, page: usize, count: usize, template: &str) {
         if self.is_watched {
             let _ = self.rt.eprint(format_args!("liquid: page {page} of {count}: {template}\n"));

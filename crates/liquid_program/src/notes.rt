@@ -5,22 +5,52 @@ ghost use Rattle.liquid_program.specs.meaning.Status.{fault_status};
 
 use crate::command::Options;
 use crate::fault::Fault;
-use crate::near_names::near_names;
+use crate::marks::{Marking, marking_of};
+use crate::message::Message;
 use crate::open_blocks::{OpenBlock, innermost};
 use crate::rendering::{plain_language, standard_language};
-use liquid_core::parser::BlockReflection;
+use crate::similar::{find_foreign, offer_bound, offer_listed, offer_pairs};
+use liquid_core::parser::{BlockReflection, Language, ParseBlock, ParseFilter, TagReflection};
 use liquid_core::partials::{InMemorySource, PartialSource};
 use liquid_core::{Error, Place};
-use liquid_grammar::{line_and_column, next_token};
+use liquid_error::Spot;
+use liquid_explain::{Mark, NearNames, Span, element_at, front_of, text_from, write_snippet};
+use liquid_grammar::line_and_column;
+use liquid_pages::PageLimit;
 use std::alloc::{AllocError, Global};
 
-/// What a page is made of, as far as an error is explained by it: the text of the template, that of its globals, and the
-/// partials.
+/// How many positions are listed.
+const MOST_POSITIONS: usize = 5;
+/// How many are listed before the last one, if there are more.
+const FIRST_POSITIONS: usize = 3;
+
+/// What a page is made of, as far as an error is explained by it: the path and the text of the template, the text of its
+/// globals, and the partials; and the limit that stopped it, if one did.
 #[derive(Clone, Copy)]
 pub(crate) struct Sources<'s> {
+    pub(crate) path: &'s str,
     pub(crate) template: &'s str,
     pub(crate) json: &'s str,
     pub(crate) partials: Option<&'s InMemorySource>,
+    pub(crate) stopped_by: Option<PageLimit>,
+}
+
+impl<'s> Sources<'s> {
+    pub(crate) fn new(
+        path: &'s str,
+        template: &'s str,
+        json: &'s str,
+        partials: Option<&'s InMemorySource>,
+        stopped_by: Option<PageLimit>,
+    ) -> Sources<'s> {
+        Sources {
+            path,
+            template,
+            json,
+            partials,
+            stopped_by,
+        }
+    }
 }
 
 /// Returns the fault of a template with this error, explained if the options say so.
@@ -42,150 +72,330 @@ pub(crate) fn refuse<'w>(
     }
 }
 
-/// Returns the line that explains an error, or nothing.
+/// Returns the lines that explain an error.
 fn collect_notes(
     alloc: Global,
     options: Options,
     sources: Sources<'_>,
     error: &Error,
 ) -> Result<String, AllocError> {
-    let text = format!(in alloc; "{error}")?;
-    let Some(message) = text.as_str().strip_prefix("liquid: ") else {
-        return Ok(text);
+    let shown = format!(in alloc; "{error}")?;
+    let message = Message::new(shown.as_str());
+    let notes = Notes {
+        alloc,
+        options,
+        sources,
+        message,
+        lines: String::new(alloc),
+        last_lines: String::new(alloc),
+        names: NearNames::new(alloc, message.requested())?,
     };
-    match error.place() {
-        None => match requested_variable(message) {
-            Some(name) if !options.sandboxed => note_of_names(
-                alloc,
-                options.decimals,
-                sources.json,
-                name,
-            ),
-            _ => Ok(String::new(alloc)),
-        },
-        Some(place) => match partial_in(message) {
-            None => note_at(alloc, options, sources.template, message, place),
-            Some(name) => match sources.partials {
-                None => Ok(String::new(alloc)),
-                Some(partials) => match partials.try_get(alloc, name)? {
-                    None => Ok(String::new(alloc)),
-                    Some(text) => note_at(alloc, options, text.as_str(), message, place),
-                },
-            },
-        },
-    }
-}
-
-/// Returns the name of the variable that a message says is unknown, if it says that. In a partial that is called by
-/// `render` the globals are not seen.
-fn requested_variable(message: &str) -> Option<&str> {
-    let rest = message.strip_prefix("Unknown variable\n  with:\n    requested variable=")?;
-    if rest.contains("\nfrom: render ") {
-        None
+    if options.standard {
+        let language = standard_language(alloc)?;
+        notes.collect(error, &language)
     } else {
-        rest.lines().next()
+        let language = plain_language(alloc)?;
+        notes.collect(error, &language)
     }
 }
 
-/// Returns the name of the innermost partial that a message has a trace of.
-fn partial_in(message: &str) -> Option<&str> {
-    for line in message.lines() {
-        if let Some(name) = line.strip_prefix("from: include ") {
-            return Some(name);
-        }
-        if let Some(name) = line.strip_prefix("from: render ") {
-            return Some(name);
-        }
-    }
-    None
-}
-
-fn note_of_names(
-    alloc: Global,
-    decimals: bool,
-    json: &str,
-    name: &str,
-) -> Result<String, AllocError> {
-    let names = near_names(alloc, decimals, json, name)?;
-    if names.is_empty() {
-        return Ok(names);
-    }
-    format!(in alloc; "similar names: {names}")
-}
-
-/// Returns what explains an error with this message at a place of a text.
-fn note_at(
+/// The lines that explain an error, as far as they are known.
+#[derive(Drop)]
+struct Notes<'s> {
     alloc: Global,
     options: Options,
-    text: &str,
-    message: &str,
-    place: Place,
-) -> Result<String, AllocError> {
-    let Some(following) = text_at(text, place) else {
-        return Ok(String::new(alloc));
-    };
-    if message.starts_with("Unexpected token") {
-        note_of_token(alloc, following)
-    } else if message.starts_with("Unclosed block.")
-        || message.starts_with("Unknown tag.") && following.starts_with("end")
-    {
-        if options.standard {
-            let language = standard_language(alloc)?;
-            note_of_block(alloc, text, innermost(alloc, text, following, &language)?)
+    sources: Sources<'s>,
+    message: Message<'s>,
+    lines: String,
+    /// Those that follow the positions.
+    last_lines: String,
+    names: NearNames,
+}
+
+impl Notes<'_> {
+    /// Returns the lines that explain the error: its positions from the inside out, and what may help.
+    fn collect<F: ParseFilter, T: TagReflection + Drop, B: ParseBlock<F> + Drop>(
+        self,
+        error: &Error,
+        language: &Language<F, T, B>,
+    ) -> Result<String, AllocError> {
+        let alloc = self.alloc;
+        let mut notes = self;
+        notes.add_limit()?;
+        let here = error.here();
+        let inside = error.sites().len();
+        let count = if here.is_some() {
+            inside.saturating_add(1)
         } else {
-            let language = plain_language(alloc)?;
-            note_of_block(alloc, text, innermost(alloc, text, following, &language)?)
+            inside
+        };
+        notes.add_sites(error, count, language)?;
+        if let Some(spot) = here {
+            let template = notes.sources.template;
+            notes.add_position(inside, None, template, spot, language)?;
         }
-    } else {
-        Ok(String::new(alloc))
+        notes.add_names(language)?;
+        if here.is_none() {
+            let path = notes.sources.path;
+            let line = format!(in alloc; "rendering {path}\n")?;
+            notes.last_lines.push_str(line.as_str())?;
+        }
+        let Notes {
+            mut lines,
+            last_lines,
+            names,
+            ..
+        } = notes;
+        drop(names);
+        lines.push_str(last_lines.as_str())?;
+        Ok(lines)
     }
-}
 
-/// Returns the text from a place on, if the text has this place.
-fn text_at(text: &str, place: Place) -> Option<&str> {
-    let mut line: usize = 1;
-    let mut column: usize = 1;
-    for (at, character) in text.char_indices() {
-        if line == place.line && column == place.column {
-            return text.get(at..);
+    /// Adds which limit stopped the page.
+    fn add_limit(&mut self) -> Result<(), AllocError> {
+        let (word, number) = match self.sources.stopped_by {
+            Some(PageLimit::Turns) => ("--turns", self.options.max_turns),
+            Some(PageLimit::Bytes) => ("--bytes", self.options.max_bytes),
+            None => return Ok(()),
+        };
+        match number {
+            Some(number) => self.lines.push_str(format!(in self.alloc;
+                "the limit is {word} {number}\n"
+            )?.as_str()),
+            None => Ok(()),
         }
-        if character == '\n' {
-            line = line.saturating_add(1);
-            column = 1;
+    }
+
+    /// Adds the positions in the texts of partials, of so many positions in all.
+    fn add_sites<F: ParseFilter, T: TagReflection + Drop, B: ParseBlock<F> + Drop>(
+        &mut self,
+        error: &Error,
+        count: usize,
+        language: &Language<F, T, B>,
+    ) -> Result<(), AllocError> {
+        for (number, site) in error.sites().iter().enumerate() {
+            if is_listed(number, count) {
+                self.add_partial(number, site.partial(), site.spot(), language)?;
+            } else if number == FIRST_POSITIONS {
+                let more = count.saturating_sub(FIRST_POSITIONS).saturating_sub(1);
+                self.lines.push_str(format!(in self.alloc; ".. ({more} more calls)\n")?.as_str())?;
+            }
+        }
+        Ok(())
+    }
+
+    /// Adds a position in the text of a partial.
+    fn add_partial<F: ParseFilter, T: TagReflection + Drop, B: ParseBlock<F> + Drop>(
+        &mut self,
+        number: usize,
+        name: &str,
+        spot: Spot,
+        language: &Language<F, T, B>,
+    ) -> Result<(), AllocError> {
+        if let Some(partials) = self.sources.partials {
+            if let Some(text) = partials.try_get(self.alloc, name)? {
+                self.add_position(number, Some(name), text.as_str(), spot, language)?;
+            }
+        }
+        Ok(())
+    }
+
+    /// Adds a position in a text: that of the error, if it is the first, and otherwise that of a call.
+    fn add_position<F: ParseFilter, T: TagReflection + Drop, B: ParseBlock<F> + Drop>(
+        &mut self,
+        number: usize,
+        partial: Option<&str>,
+        text: &str,
+        spot: Spot,
+        language: &Language<F, T, B>,
+    ) -> Result<(), AllocError> {
+        let Some(place) = offset_of(text, spot) else {
+            return Ok(());
+        };
+        if number == 0 {
+            return self.add_error(partial, text, place, language);
+        }
+        let _ = self.add_place("called at", partial, text, place)?;
+        if number == 1 && self.message.is("Unknown variable") {
+            if let Some(tag) = element_at(text, place) {
+                offer_pairs(self.alloc, tag, &mut self.names)?;
+            }
+        }
+        Ok(())
+    }
+
+    /// Adds the position of the error, with its line and what is known of it.
+    fn add_error<F: ParseFilter, T: TagReflection + Drop, B: ParseBlock<F> + Drop>(
+        &mut self,
+        partial: Option<&str>,
+        text: &str,
+        place: usize,
+        language: &Language<F, T, B>,
+    ) -> Result<(), AllocError> {
+        let Marking { span, label, hint } = marking_of(
+            self.alloc,
+            text,
+            place,
+            self.message,
+            language,
+        )?;
+        let line = self.add_place("at", partial, text, span.place)?;
+        if !self.message.is("Unclosed block.") {
+            let mark = Mark { span, line };
+            write_snippet(self.alloc, &mut self.lines, text, mark, label.as_str())?;
+        }
+        if let Some(hint) = hint {
+            self.lines.push_str(hint)?;
+            self.lines.push('\n')?;
+        }
+        if self.message.is("Unknown variable") {
+            offer_bound(self.alloc, text, &mut self.names)?;
+        }
+        self.add_plugins(text, place, language)
+    }
+
+    /// Adds a line with a place of a text, and returns the number of its line.
+    fn add_place(
+        &mut self,
+        word: &str,
+        partial: Option<&str>,
+        text: &str,
+        place: usize,
+    ) -> Result<usize, AllocError> {
+        let (line, column) = line_and_column(text.get(..place).unwrap_or(""));
+        let (kind, name) = match partial {
+            Some(name) => ("partial ", name),
+            None => ("", self.sources.path),
+        };
+        let added = format!(in self.alloc; "{word} {kind}{name}, line {line}, column {column}\n")?;
+        self.lines.push_str(added.as_str())?;
+        Ok(line)
+    }
+
+    /// Offers the names of plug-ins that may be meant, and says which block is open where an end is missing, or where one
+    /// is too many.
+    fn add_plugins<F: ParseFilter, T: TagReflection + Drop, B: ParseBlock<F> + Drop>(
+        &mut self,
+        text: &str,
+        place: usize,
+        language: &Language<F, T, B>,
+    ) -> Result<(), AllocError> {
+        if self.message.is("Unknown filter") {
+            for name in language.filters.plugin_names() {
+                self.names.offer(self.alloc, name)?;
+            }
+        }
+        let is_unclosed = self.message.is("Unclosed block.");
+        if !is_unclosed && !self.message.is("Unknown tag.") {
+            return Ok(());
+        }
+        let following = text.get(place..).unwrap_or("");
+        let open = innermost(self.alloc, text, following, language)?;
+        if !is_unclosed {
+            self.offer_tags(&open, language)?;
+        }
+        if is_unclosed || following.starts_with("end") {
+            self.add_block(text, open, is_unclosed)?;
+        }
+        Ok(())
+    }
+
+    /// Offers the names of tags and blocks, and those that the open block has inside it.
+    fn offer_tags<F: ParseFilter, T: TagReflection + Drop, B: ParseBlock<F> + Drop>(
+        &mut self,
+        open: &Option<OpenBlock<'_, B>>,
+        language: &Language<F, T, B>,
+    ) -> Result<(), AllocError> {
+        for name in language.tags.plugin_names() {
+            self.names.offer(self.alloc, name)?;
+        }
+        for name in language.blocks.plugin_names() {
+            self.names.offer(self.alloc, name)?;
+        }
+        if let Some(block) = open {
+            self.names.offer(self.alloc, block.kind.end_tag())?;
+            for name in block.kind.dividers() {
+                self.names.offer(self.alloc, *name)?;
+            }
+        }
+        Ok(())
+    }
+
+    /// Adds which end is missing, and the beginning of its block.
+    fn add_block<B: BlockReflection>(
+        &mut self,
+        text: &str,
+        open: Option<OpenBlock<'_, B>>,
+        is_unclosed: bool,
+    ) -> Result<(), AllocError> {
+        let Some(block) = open else {
+            return self.last_lines.push_str("no block is open here\n");
+        };
+        let end = block.kind.end_tag();
+        let place = text.len().saturating_sub(block.from.len());
+        let (line, column) = line_and_column(text.get(..place).unwrap_or(""));
+        let note = format!(in self.alloc;
+            "{{% {end} %}} ends the block that begins at line {line}, column {column}\n"
+        )?;
+        self.last_lines.push_str(note.as_str())?;
+        if is_unclosed {
+            let length = match element_at(text, place) {
+                Some(element) => element.len(),
+                None => 1,
+            };
+            let mark = Mark {
+                span: Span { place, length },
+                line,
+            };
+            write_snippet(
+                self.alloc,
+                &mut self.last_lines,
+                text,
+                mark,
+                "this block has no end",
+            )?;
+        }
+        Ok(())
+    }
+
+    /// Adds the names that may be meant.
+    fn add_names<F: ParseFilter, T: TagReflection + Drop, B: ParseBlock<F> + Drop>(
+        &mut self,
+        language: &Language<F, T, B>,
+    ) -> Result<(), AllocError> {
+        let json = self.sources.json;
+        offer_listed(
+            self.alloc,
+            self.options,
+            json,
+            self.message,
+            &mut self.names,
+        )?;
+        let names = self.names.join(self.alloc)?;
+        let similar = if names.is_empty() {
+            find_foreign(self.message, language).unwrap_or("")
         } else {
-            column = column.saturating_add(1);
+            names.as_str()
+        };
+        if !similar.is_empty() {
+            let note = format!(in self.alloc; "similar names: {similar}\n")?;
+            self.last_lines.push_str(note.as_str())?;
         }
-    }
-    if line == place.line && column == place.column {
-        Some("")
-    } else {
-        None
+        Ok(())
     }
 }
 
-fn note_of_token(alloc: Global, following: &str) -> Result<String, AllocError> {
-    match next_token(following) {
-        Some(token) => {
-            let first = token.text.lines().next().unwrap_or("");
-            format!(in alloc; "the token is {first}")
-        }
-        None => Ok(String::new(alloc)),
-    }
+/// Returns `true` if a position is listed. Of more than five the first ones and the last one are.
+fn is_listed(number: usize, count: usize) -> bool {
+    count <= MOST_POSITIONS || number < FIRST_POSITIONS || number.saturating_add(1) == count
 }
 
-fn note_of_block<B: BlockReflection>(
-    alloc: Global,
-    text: &str,
-    open: Option<OpenBlock<'_, B>>,
-) -> Result<String, AllocError> {
-    let Some(open) = open else {
-        return String::from_str(alloc, "no block is open here");
-    };
-    let end = open.kind.end_tag();
-    let before = text.len().saturating_sub(open.from.len());
-    let Some((front, _)) = text.split_at_checked(before) else {
-        return Ok(String::new(alloc));
-    };
-    let (line, column) = line_and_column(front);
-    format!(in alloc; "{{% {end} %}} ends the block that begins at line {line}, column {column}")
+/// Returns how many bytes of a text come before a spot.
+fn offset_of(text: &str, spot: Spot) -> Option<usize> {
+    match spot {
+        Spot::Left(left) => Some(front_of(text, left as usize)?.len()),
+        Spot::Place(Place { line, column }) => text
+            .len()
+            .checked_sub(text_from(text, line, column)?.len()),
+    }
 }

@@ -2,7 +2,8 @@
 ghost use Rattle.std.specs.Prelude.{◌≤◌, length, IfSome};
 
 use liquid_core::parser::{Language, ParseBlock, ParseFilter, TagReflection};
-use liquid_grammar::{Element, TagText, next_element, next_token};
+use liquid_explain::{Span, element_at, find_variable};
+use liquid_grammar::{Element, TagText, match_identifier, next_element, next_token};
 use std::alloc::{AllocError, Global};
 
 /// A block that is open, and the text from the name of its start tag on.
@@ -99,4 +100,74 @@ fn after_escaped<'a>(
         }
     }
     None
+}
+
+/// Returns where a variable is in the dividers of the block whose start tag has its name at this place of a text.
+pub(crate) fn find_in_dividers<F: ParseFilter, T: TagReflection + Drop, B: ParseBlock<F> + Drop>(
+    alloc: Global,
+    text: &str,
+    place: usize,
+    language: &Language<F, T, B>,
+    name: &str,
+    index: Option<&str>,
+) -> Result<Option<Span>, AllocError> {
+    let Some((from, body)) = split_start(text, place) else {
+        return Ok(None);
+    };
+    let Some(kind) = block_of(from, language) else {
+        return Ok(None);
+    };
+    let mut open = Vec::new(alloc);
+    open.push(OpenBlock { kind, from })?;
+    let mut rest = body;
+    'elements: while let Some((element, after)) = next_element(rest) {
+        rest = after;
+        let Element::Tag(tag) = element else {
+            continue;
+        };
+        if open.len() == 1 && kind.dividers().iter().any(|divider| *divider == tag.name) {
+            if let Some(span) = find_in_tag(text, tag.place, name, index) {
+                return Ok(Some(span));
+            }
+        }
+        match begin(&mut open, tag, language) {
+            None if open.is_empty() => return Ok(None),
+            None => {}
+            Some(block) if block.kind.escapes() => {
+                let kind = block.kind;
+                match after_escaped(rest, kind.start_tag(), kind.end_tag(), kind.nests()) {
+                    Some(after) => rest = after,
+                    None => return Ok(None),
+                }
+            }
+            Some(block) => open.push(block)?,
+        }
+    }
+    Ok(None)
+}
+
+/// Returns the text from this place on, where the name of a tag is, and what follows the tag's tokens.
+fn split_start(text: &str, place: usize) -> Option<(&str, &str)> {
+    let from = text.get(place..)?;
+    let tag = element_at(text, place)?;
+    Some((from, from.get(tag.len()..)?))
+}
+
+/// Returns the block that begins with this name.
+fn block_of<'a, F: ParseFilter, T: TagReflection + Drop, B: ParseBlock<F> + Drop>(
+    from: &str,
+    language: &'a Language<F, T, B>,
+) -> Option<&'a B> {
+    let (name, _) = match_identifier(from)?;
+    language.blocks.get(name)
+}
+
+/// Returns where a variable is in the tag from whose name on this is the rest of the text.
+fn find_in_tag(text: &str, from: &str, name: &str, index: Option<&str>) -> Option<Span> {
+    let place = text.len().checked_sub(from.len())?;
+    let span = find_variable(element_at(text, place)?, name, index)?;
+    Some(Span {
+        place: place.checked_add(span.place)?,
+        length: span.length,
+    })
 }

@@ -124,8 +124,9 @@ fn write_one<'w, F: Folder>(
 {
     let mut page = Vec::new(alloc);
     let answer = print_one(alloc, pages, json, partials, template, files, &mut page);
+    let paths = paths_of(pages, template);
     match file_of_pages(alloc, pages.output, template) {
-        Ok(file) => land(alloc, files, file, page.as_slice(), answer),
+        Ok(file) => land(alloc, files, paths, file, page.as_slice(), answer),
         Err(_) => answer.and(Err(Fault::Refused(Error::Memory))),
     }
 }
@@ -178,14 +179,25 @@ fn execute_one<'w, F: Folder, K: Sink>(
     let Ok(copy) = copied(partials) else {
         return Err(Fault::Refused(Error::Memory));
     };
-    match render_over(alloc, pages.options, text.as_str(), globals, copy, sink) {
+    let mut stopped_by = None;
+    match render_over(
+        alloc,
+        pages.options,
+        text.as_str(),
+        globals,
+        copy,
+        sink,
+        &mut stopped_by,
+    ) {
         Ok(()) => Ok(()),
         Err(error) => {
-            let sources = Sources {
-                template: text.as_str(),
+            let sources = Sources::new(
+                template,
+                text.as_str(),
                 json,
-                partials: partials.as_ref(),
-            };
+                partials.as_ref(),
+                stopped_by,
+            );
             Err(refuse(alloc, pages.options, sources, error))
         }
     }

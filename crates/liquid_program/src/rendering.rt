@@ -4,7 +4,7 @@ ghost use Rattle.liquid_runtime.specs.meaning.Maps.{names_of};
 ghost use Rattle.liquid_template.specs.meaning.Grows.{Grows};
 ghost use Rattle.liquid_tags.specs.meaning.Languages.{meaning_of as plain_meaning};
 ghost use Rattle.liquid_std.specs.meaning.Languages.{meaning_of as standard_meaning};
-ghost use Rattle.liquid_program.specs.meaning.Program.{page_frame, page_options, Renders, RendersIn};
+ghost use Rattle.liquid_program.specs.meaning.Program.{limit_of, page_frame, page_options, Renders, RendersIn};
 ghost use Rattle.liquid_program.specs.meaning.ProgramLanguage.{plain_language, plain_made, standard_language, standard_made};
 
 use crate::command::Options;
@@ -12,7 +12,7 @@ use crate::filters::{PlainFilters, plain_filters};
 use liquid_core::parser::Language;
 use liquid_core::partials::InMemorySource;
 use liquid_core::{Error, Object, Sink};
-use liquid_pages::{PageFrame, PageOptions, render_text};
+use liquid_pages::{PageFrame, PageLimit, PageOptions, render_text};
 use liquid_std::{StdBlocks, StdTags};
 use liquid_tags::{Blocks, Tags};
 use std::alloc::{AllocError, Global};
@@ -26,7 +26,8 @@ pub(crate) type PlainLanguage = Language<PlainFilters, Tags, Blocks>;
 /// Standard Liquid.
 pub(crate) type StandardLanguage = Language<FilterPlugin<StdKind>, StdTags, StdBlocks>;
 
-/// Renders the text over these globals and these partials, with these options, and writes the result.
+/// Renders the text over these globals and these partials, with these options, and writes the result. `stopped_by` gets the
+/// limit that stopped it, if one did.
 pub fn render_over<K: Sink>(
     alloc: Global,
     options: Options,
@@ -34,6 +35,7 @@ pub fn render_over<K: Sink>(
     globals: Object,
     partials: Option<InMemorySource>,
     sink: &mut K,
+    stopped_by: &mut Option<PageLimit>,
 ) -> Result<(), Error>
     ensures renders { Renders options text.now (names_of globals) partials
         (K.sunk sink.old) (K.sunk sink.new) result }
@@ -42,9 +44,9 @@ pub fn render_over<K: Sink>(
 {
     let page = page_options(options);
     if options.standard {
-        render_standard(alloc, page, text, globals, partials, sink)
+        render_standard(alloc, page, text, globals, partials, sink, stopped_by)
     } else {
-        render_plain(alloc, page, text, globals, partials, sink)
+        render_plain(alloc, page, text, globals, partials, sink, stopped_by)
     }
 }
 
@@ -57,6 +59,7 @@ fn render_plain<K: Sink>(
     globals: Object,
     partials: Option<InMemorySource>,
     sink: &mut K,
+    stopped_by: &mut Option<PageLimit>,
 ) -> Result<(), Error>
     ensures renders { RendersIn false page text.now (names_of globals) partials
         (K.sunk sink.old) (K.sunk sink.new) result }
@@ -65,7 +68,7 @@ fn render_plain<K: Sink>(
 {
     match plain_language(alloc) {
         Ok(language) => render_text::<(), PlainFilters, Tags, Blocks, InMemorySource, K>(
-            alloc, page, text, &language, globals, partials, sink,
+            alloc, page, text, &language, globals, partials, sink, stopped_by,
         ),
         Err(_) => Err(Error::Memory),
     }
@@ -80,6 +83,7 @@ fn render_standard<K: Sink>(
     globals: Object,
     partials: Option<InMemorySource>,
     sink: &mut K,
+    stopped_by: &mut Option<PageLimit>,
 ) -> Result<(), Error>
     ensures renders { RendersIn true page text.now (names_of globals) partials
         (K.sunk sink.old) (K.sunk sink.new) result }
@@ -94,7 +98,9 @@ fn render_standard<K: Sink>(
             StdBlocks,
             InMemorySource,
             K,
-        >(alloc, page, text, &language, globals, partials, sink),
+        >(
+            alloc, page, text, &language, globals, partials, sink, stopped_by,
+        ),
         Err(_) => Err(Error::Memory),
     }
 }
@@ -124,6 +130,16 @@ fn page_frame(standard: bool, sandboxed: bool) -> PageFrame
     }
 }
 
+/// Returns the limit of this number, which is none if it is 0.
+fn limit_of(number: Option<u64>) -> Option<u64>
+    ensures { result ≡ limit_of number }
+{
+    match number {
+        Some(number) => if number == 0 { None } else { Some(number) },
+        None => None,
+    }
+}
+
 /// Returns the options of the page.
 fn page_options(options: Options) -> PageOptions
     ensures { result ≡ page_options options }
@@ -141,7 +157,7 @@ fn page_options(options: Options) -> PageOptions
         frame: page_frame(standard, sandboxed),
         decimals,
         lenient,
-        max_turns,
-        max_bytes,
+        max_turns: limit_of(max_turns),
+        max_bytes: limit_of(max_bytes),
     }
 }

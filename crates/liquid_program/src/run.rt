@@ -255,14 +255,25 @@ fn execute<'w, F: Folder, K: Sink>(
     let json = keep_text(alloc, options, json);
     let partials = partials_of(alloc, files, ending, paths.folder)?;
     let kept = keep_partials(options, &partials);
-    match render_over(alloc, options, template.as_str(), globals, partials, sink) {
+    let mut stopped_by = None;
+    match render_over(
+        alloc,
+        options,
+        template.as_str(),
+        globals,
+        partials,
+        sink,
+        &mut stopped_by,
+    ) {
         Ok(()) => Ok(()),
         Err(error) => {
-            let sources = Sources {
-                template: template.as_str(),
-                json: json.as_str(),
-                partials: kept.as_ref(),
-            };
+            let sources = Sources::new(
+                paths.template,
+                template.as_str(),
+                json.as_str(),
+                kept.as_ref(),
+                stopped_by,
+            );
             Err(refuse(alloc, options, sources, error))
         }
     }

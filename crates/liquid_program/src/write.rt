@@ -12,7 +12,7 @@ ghost use Rattle.liquid_program.specs.meaning.Written.{
   WritesAsked,
 };
 
-use crate::command::Command;
+use crate::command::{Command, Paths};
 use crate::fault::Fault;
 use crate::folder::{Folder, Unread};
 use crate::pages_command::name_of;
@@ -61,11 +61,17 @@ pub(crate) fn file_of_pages(
     }
 }
 
-/// Writes a page to a file, if it was rendered to its end.
+/// Returns `true` if a file is the template of a page or the file of its globals.
+fn is_own<F: Folder>(files: &F, paths: Paths<'_>, file: &str) -> bool {
+    files.is_same_file(paths.template, file) || files.is_same_file(paths.globals, file)
+}
+
+/// Writes a page to a file, if it was rendered to its end and is not made from that file.
 #[tactic(auto, using(crate::proofs::PagesLemmas::landing))]
 pub(crate) fn land<'w, F: Folder>(
     alloc: Global,
     files: &mut F,
+    paths: Paths<'_>,
     file: String,
     page: &[u8],
     answer: Result<(), Fault<'w>>,
@@ -78,6 +84,9 @@ pub(crate) fn land<'w, F: Folder>(
     ensures memory { IsMemory answer.entry → IsMemory result }
 {
     answer?;
+    if is_own(&*files, paths, file.as_str()) {
+        return Err(Fault::OwnFile(file));
+    }
     match files.replace(alloc, file.as_str(), page) {
         Ok(()) => Ok(()),
         Err(Unread::Fault) => Err(Fault::Unwritable(file)),
@@ -104,7 +113,7 @@ pub(crate) fn write_page<'w, F: Folder>(
     let mut page = Vec::new(alloc);
     let answer = print(alloc, command, files, &mut page);
     match page_file(alloc, place, command.paths.template) {
-        Ok(file) => land(alloc, files, file, page.as_slice(), answer),
+        Ok(file) => land(alloc, files, command.paths, file, page.as_slice(), answer),
         Err(_) => answer.and(Err(Fault::Refused(Error::Memory))),
     }
 }

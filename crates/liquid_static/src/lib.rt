@@ -2,7 +2,8 @@
 //!
 //! What crosses are slices of bytes, structs of slices, and numbers. No pointer is kept when a call
 //! returns, and all that a call allocates is freed before it returns. Any bytes and any numbers have an
-//! answer; `c/liquid.h` says what is left to the caller.
+//! answer; `c/liquid.h` says what is left to the caller. `c/calls.c` has the calls of the header, which hand on
+//! theirs to these, with other pointers in the place of null pointers.
 #![tactic(auto)]
 
 ghost use Rattle.std.specs.Prelude.{◌≡◌};
@@ -22,7 +23,7 @@ const VERSION: u32 = 2;
 /// `out` gets the first bytes of what was rendered, as many as it has room for, and its other bytes stay as
 /// they were. `outcome.needed` says how many were rendered. `message` and `outcome.message_len` are alike.
 #[unsafe(no_mangle)]
-pub extern "C" fn liquid_render(
+pub extern "C" fn liquid_core_render(
     alloc: Global,
     page: &Page<'_>,
     out: &mut [u8],
@@ -34,13 +35,13 @@ pub extern "C" fn liquid_render(
     *outcome = render(alloc, page, out, message);
 }
 
-/// Renders the page over each of these globals in turn, as `liquid_render` does over `page.globals`, which are
+/// Renders the page over each of these globals in turn, as `liquid_core_render` does over `page.globals`, which are
 /// passed over. The pages are in `out` one after another, and `outcomes` has one outcome for each, as far as
 /// it has room. `message` has the text of the last error.
 ///
 /// Returns how many pages are whole, and in `out`.
 #[unsafe(no_mangle)]
-pub extern "C" fn liquid_render_each(
+pub extern "C" fn liquid_core_render_each(
     alloc: Global,
     page: &Page<'_>,
     globals: &[&[u8]],

@@ -1,5 +1,5 @@
 //! The block `capture`.
-ghost use Rattle.std.specs.Prelude.{◌≡◌, string_bytes};
+ghost use Rattle.std.specs.Prelude.{◌≡◌, string_bytes, OnErr};
 ghost use Rattle.liquid_error.specs.meaning.Told.{Gives};
 ghost use Rattle.liquid_parser.specs.meaning.Handed.{Tokens};
 ghost use Rattle.liquid_parser.specs.meaning.Plugins.{AreTokens};
@@ -25,7 +25,8 @@ pub(crate) fn begin_capture(alloc: Global, tokens: TagTokenIter<'_>) -> Result<S
     alone(alloc, tokens, StdPlan::new(StdBlock::Capture(name)))
 }
 
-/// Captures the part in the first turn, and assigns its text to the name in the second.
+/// Captures the part in the first turn, and assigns its text to the name in the second. If memory runs out, the name keeps
+/// its value.
 #[inline(never)]
 pub(crate) fn capture_turn<R: Runtime>(
     alloc: Global,
@@ -38,6 +39,7 @@ pub(crate) fn capture_turn<R: Runtime>(
         (R.view runtime.old) (R.view runtime.new) }
     ensures progress { LeavesProgress result (captures (string_bytes name.now) (text_of text.old) (R.view runtime.old)).progress
         (text_of text.new) }
+    ensures kept { OnErr result (R.view runtime.new ≡ R.view runtime.old) }
     ensures frames { SameFrames (R.view runtime.old) (R.view runtime.new) }
     ensures store { R.store runtime.new ≡ R.store runtime.old }
     ensures owes { R.restores runtime.new ≡ R.restores runtime.old }

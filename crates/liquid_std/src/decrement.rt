@@ -1,5 +1,5 @@
 //! The tag `decrement`.
-ghost use Rattle.std.specs.Prelude.{◌≡◌, IfSome, string_bytes};
+ghost use Rattle.std.specs.Prelude.{◌≡◌, string_bytes, IfSome, OnErr};
 ghost use Rattle.liquid_error.specs.meaning.Told.{told, Gives};
 ghost use Rattle.liquid_parser.specs.meaning.Handed.{Tokens};
 ghost use Rattle.liquid_parser.specs.meaning.Plugins.{AreTokens};
@@ -29,7 +29,7 @@ pub(crate) fn parse_decrement<X: Filter>(
     alone(alloc, tokens, StdTag::Decrement(name))
 }
 
-/// Decrements an index variable, and writes the new number.
+/// Decrements an index variable, and writes the new number. If there is an error, or memory runs out, nothing changes.
 #[inline(never)]
 pub(crate) fn decrement<R: Runtime>(
     alloc: Global,
@@ -39,6 +39,7 @@ pub(crate) fn decrement<R: Runtime>(
     ensures answer { Gives turn_of result (decrements (string_bytes name.now) (tt {0}) (R.view runtime.old)).answer }
     ensures after { Leaves result (decrements (string_bytes name.now) (tt {0}) (R.view runtime.old)).written
         (R.view runtime.old) (R.view runtime.new) }
+    ensures kept { OnErr result (R.view runtime.new ≡ R.view runtime.old) }
     ensures frames { SameFrames (R.view runtime.old) (R.view runtime.new) }
     ensures store { R.store runtime.new ≡ R.store runtime.old }
     ensures owes { R.restores runtime.new ≡ R.restores runtime.old }

@@ -1,34 +1,5 @@
 -- What is rendered to a text of its own, as the sink sees it, and how the text is opened and closed.
-use Rattle.std.proofs.Common.{
-  ◌≡◌,
-  ℕ,
-  ◌+◌,
-  ◌<◌,
-  true,
-  List,
-  [],
-  ◌∷◌,
-  ◌++◌,
-  length,
-  map,
-  Option,
-  Some,
-  None,
-  Result,
-  Ok,
-  Err,
-  ◌⊎◌,
-  inl,
-  inr,
-  refl,
-  sym,
-  ap,
-  subst,
-  ◌∙◌,
-  arith,
-  append_assoc,
-  IsSome,
-}
+use Rattle.std.proofs.Common.{◌≡◌, ℕ, ◌+◌, ◌<◌, true, List, [], ◌∷◌, ◌++◌, length, map, Option, Some, None, Result, Ok, Err, ◌⊎◌, inl, inr, refl, sym, ap, subst, ◌∙◌, arith, IsSome}
 use Rattle.std.specs.Prelude.{MatchOption, IfSome}
 use Rattle.std.proofs.lemmas.List.{append-nil, map-append}
 use Rattle.std.proofs.lemmas.Option.{same_Some}
@@ -36,14 +7,13 @@ use Rattle.liquid_error.specs.declared.error.Error.{Error}
 use Rattle.liquid_error.specs.meaning.Refusal.{Refusal}
 use Rattle.liquid_error.specs.meaning.Told.{told}
 use Rattle.liquid_runtime.specs.meaning.View.{View}
-use Rattle.liquid_template.specs.meaning.Sunk.{Sunk}
 use Rattle.liquid_template.specs.meaning.Output.{Output, Passed, Passes, Refuses, PassesUpTo}
 use Rattle.liquid_template.specs.meaning.Run.{Step, Run, pieces, written, one_if, checkpoints}
 use Rattle.liquid_template.specs.meaning.Actions.{silent_step, silent}
 use Rattle.liquid_template.specs.meaning.Pours.{Pours}
 use Rattle.liquid_template.specs.meaning.Outcome.{Whole, SinkFails, GateRefuses, BrokenOff, Cut, Stopped, Outcome, RendersWithin}
 use Rattle.liquid_template.specs.steps.Going.{Aside}
-use Rattle.liquid_template.specs.steps.Place.{Place, Around, place, target, target_of, around, around_of, Swapped}
+use Rattle.liquid_template.specs.steps.Place.{Place, place, target, target_of, around, around_of, Swapped}
 use Rattle.liquid_template.proofs.Joins.{map-middle}
 use Rattle.liquid_template.proofs.Passing.{passes_none, passes_at, up_to_at, refuses_at}
 use Rattle.liquid_template.proofs.Pouring.{pours_nothing, pours_refused}

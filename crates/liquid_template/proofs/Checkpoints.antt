@@ -1,13 +1,13 @@
 -- Checkpoints count turns.
-use Rattle.std.proofs.Common.{◌≡◌, ℕ, zero, suc, ◌+◌, List, map, Option, None, Some, Result, Ok, Err, refl, sym, ap, ◌∙◌, arith}
+use Rattle.std.proofs.Common.{◌≡◌, ℕ, suc, ◌+◌, List, Option, None, Some, Result, Ok, Err, refl, arith}
 use Rattle.liquid_error.specs.meaning.Refusal.{Refusal}
 use Rattle.liquid_value.specs.meaning.Tree.{Tree}
 use Rattle.liquid_runtime.specs.meaning.Frames.{FrameShape, beginning, restored_by}
 use Rattle.liquid_runtime.specs.meaning.View.{View}
 use Rattle.liquid_runtime.specs.meaning.Written.{with_written}
 use Rattle.liquid_plugins.specs.meaning.Turns.{NodeMeaning}
-use Rattle.liquid_template.specs.meaning.Run.{Run, Action, checkpoints}
-use Rattle.liquid_template.specs.meaning.Actions.{goes_on, and_then, under, writes_value}
+use Rattle.liquid_template.specs.meaning.Run.{Run, Action}
+use Rattle.liquid_template.specs.meaning.Actions.{goes_on, under, writes_value}
 use Rattle.liquid_template.specs.meaning.Nodes.{Setting, answered, turns}
 use Rattle.liquid_template.specs.laws.Checkpoints.{OneEachTurn, NoneElsewhere, Kept, asked_after, asked_in}
 use Rattle.liquid_template.proofs.Joins.{checkpoints-append, checkpoints-outside}

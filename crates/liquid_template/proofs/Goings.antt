@@ -1,7 +1,7 @@
 -- The result of each turn of a node, as the cycle continues with it.
 use Rattle.std.proofs.Common.{Bool, true, false, is_ok, is_some, ◌≡◌, ℕ, suc, ◌-◌, ◌<◌, List, [], ◌∷◌, length, Option, Some, None, inl}
-use Rattle.std.proofs.Common.{inr, Result, Ok, Err, refl, sym, ap, subst, ◌∙◌}
-use Rattle.std.specs.Prelude.{IfSome, OnSome, IsOk, IsErrAnd, MatchOption}
+use Rattle.std.proofs.Common.{inr, Result, Ok, Err, refl, sym, ap, subst, ◌∙◌, option_map}
+use Rattle.std.specs.Prelude.{IfOk, IfSome, OnSome, IsOk, IsErrAnd, MatchOption}
 use Rattle.std.proofs.lemmas.List.{append-nil}
 use Rattle.liquid_error.specs.meaning.Refusal.{Refusal}
 use Rattle.liquid_error.specs.declared.error.Error.{Error}
@@ -13,15 +13,15 @@ use Rattle.liquid_runtime.specs.meaning.Frames.{FrameShape, Restore, beginning, 
 use Rattle.liquid_runtime.specs.meaning.OpenFrames.{opened, EndsFirst}
 use Rattle.liquid_plugins.specs.meaning.Turns.{text_turn, body_turn, partial_turn, capture_turn, end_turn, NodeMeaning}
 use Rattle.liquid_plugins.specs.meaning.Nodes.{NodeShape, Nodes, no_nodes, node}
-use Rattle.liquid_template.specs.meaning.Run.{Run, Action, pieces, written}
+use Rattle.liquid_template.specs.meaning.Run.{Run, Action, pieces}
 use Rattle.liquid_template.specs.meaning.Actions.{done, refuses, asks, under, part_at, silent, refused_through}
 use Rattle.liquid_template.specs.meaning.Nodes.{Setting, performed, turns, played, run_node, run_nodes}
 use Rattle.liquid_template.specs.meaning.Partials.{partials_at, too_deep, read_as}
 use Rattle.liquid_template.specs.meaning.Rendering.{nodes_run}
-use Rattle.liquid_template.specs.meaning.Output.{Output, Passes, Refuses}
+use Rattle.liquid_template.specs.meaning.Output.{Output, Refuses}
 use Rattle.liquid_template.specs.meaning.Outcome.{Cut, Stopped, RendersWithin, was_stopped}
 use Rattle.liquid_template.specs.steps.PieceOut.{PieceOut}
-use Rattle.liquid_template.specs.steps.NodeTurns.{Answer, Begins}
+use Rattle.liquid_template.specs.steps.NodeTurns.{Answer, Begins, SaysSame}
 use Rattle.liquid_template.specs.steps.Going.{Ends, Goes, Opens, Captures, Captured, Finds, Takes}
 use Rattle.liquid_template.specs.steps.Place.{TurnAsked}
 use Rattle.liquid_template.specs.steps.Sought.{store_answer}
@@ -38,6 +38,9 @@ use Rattle.liquid_template.proofs.Renderings.{turn_bodies, turn_captures, turn_i
 false-not-true : false ≡ true → ⊥
 false-not-true e = cc
 
+none-not-some : {A : Type 0} (x : A) → None ≡ Some x → ⊥
+none-not-some x e = cc
+
 true-not-false : true ≡ false → ⊥
 true-not-false e = cc
 
@@ -50,6 +53,53 @@ ok_is (Err e) h = absurd (false-not-true h)
 pub renders_ok : {Reg : Type 0} (r : Run Reg) (v w : View Reg) (b a : Output) (answer : Answer) → IsOk answer
     → RendersWithin r v b a w (Ok tt) → RendersWithin r v b a w answer
 renders_ok r v w b a answer h x = subst (λ y. RendersWithin r v b a w y) (sym (ok_is answer h)) x
+
+becomes_twice : (change : Refusal → Refusal) (o p q : Option Refusal) → IfSome p (λ r. option_map (λ x. x) o ≡ Some r)
+    → IfSome q (λ r. option_map change p ≡ Some r) → IfSome q (λ r. option_map change o ≡ Some r)
+becomes_twice change o p None h k = tt
+becomes_twice change o None (Some r) h k = absurd (none-not-some r k)
+becomes_twice change None (Some x) (Some r) h k = absurd (none-not-some x h)
+becomes_twice change (Some y) (Some x) (Some r) h k = subst (λ z. option_map change z ≡ Some r) (sym h) k
+
+-- a refusal that another error says too
+pub said_again : {A : Type 0} (meant : Result A Refusal) (o p : Option Refusal) → IfSome p (λ r. option_map (λ x. x) o ≡ Some r)
+    → IfSome o (λ r. meant ≡ Err r) → IfSome p (λ r. meant ≡ Err r)
+said_again meant o None h k = tt
+said_again meant None (Some r) h k = absurd (none-not-some r h)
+said_again meant (Some x) (Some r) h k =
+    let same : x ≡ r = cc in
+    subst (λ y. meant ≡ Err y) same k
+
+pub gives_again : {A B : Type 0} (of : A → B) (x y : Result A Error) (meant : Result B Refusal) → ErrBecomes (λ r. r) x y → Gives of x meant
+    → Gives of y meant
+gives_again of (Ok x) y meant h k = subst (λ z. Gives of z meant) (sym h) k
+gives_again of (Err e) (Ok x) meant h k = absurd h
+gives_again of (Err e) (Err f) meant h k = said_again meant (told e) (told f) h k
+
+pub ok_again : {A : Type 0} (P : A → Type 0) (x y : Result A Error) → ErrBecomes (λ r. r) x y → IfOk x P → IfOk y P
+ok_again P (Ok x) y h k = subst (λ z. IfOk z P) (sym h) k
+ok_again P (Err e) (Ok x) h k = absurd h
+ok_again P (Err e) (Err f) h k = tt
+
+-- an answer that says the same is as good
+pub says_same : {Reg : Type 0} (r : Run Reg) (v w : View Reg) (b a : Output) (answer later : Answer) → SaysSame answer later
+    → RendersWithin r v b a w answer → RendersWithin r v b a w later
+says_same r v w b a (Ok u) later h x = subst (λ y. RendersWithin r v b a w y) (sym h) x
+says_same r v w b a (Err e) (Ok u) h x = absurd h
+says_same r v w b a (Err e) (Err f) h x =
+    record {
+      outcome = subst (λ t. MatchOption t (Cut r b a) (Stopped r b a w)) (sym h) x.outcome;
+      frames = x.frames;
+      pours = record { grows = x.pours.grows; lent = x.pours.lent; text = tt };
+    }
+
+-- a refusal is changed twice
+pub changed_twice : {T : Type 0} (change : Refusal → Refusal) (first second third : Result T Error) → ErrBecomes (λ r. r) first second
+    → ErrBecomes change second third → ErrBecomes change first third
+changed_twice change (Ok x) second third h k = subst (λ y. ErrBecomes change y third) h k
+changed_twice change (Err e) (Ok x) third h k = absurd h
+changed_twice change (Err e) (Err f) (Ok x) h k = absurd k
+changed_twice change (Err e) (Err f) (Err g) h k = becomes_twice change (told e) (told f) (told g) h k
 
 -- nothing was written
 pub done_ok : {Reg : Type 0} (v : View Reg) (b : Output) (answer : Answer) → IsOk answer → RendersWithin (done v) v b b v answer

@@ -5,7 +5,7 @@ use Rattle.liquid_error.specs.meaning.Told.{told}
 use Rattle.liquid_runtime.specs.meaning.Maps.{Names}
 use Rattle.liquid_runtime.specs.meaning.View.{View}
 use Rattle.liquid_runtime.specs.meaning.Emptied.{emptied}
-use Rattle.liquid_runtime.specs.meaning.Written.{written_of, with_written, SameFrames}
+use Rattle.liquid_runtime.specs.meaning.Written.{SameFrames}
 use Rattle.liquid_runtime.specs.meaning.Frames.{isolated_frame, Restore, restore_isolated, begin_isolated, beginning, restored_by, ending}
 use Rattle.liquid_runtime.specs.meaning.OpenFrames.{EndsFirst}
 use Rattle.liquid_plugins.specs.meaning.Nodes.{Nodes}
@@ -16,7 +16,7 @@ use Rattle.liquid_template.specs.meaning.Rendering.{nodes_run, template_run, iso
 use Rattle.liquid_template.specs.meaning.Isolated.{given_back, step_given_back, run_given_back, OnlyIndexChanges}
 use Rattle.liquid_template.specs.meaning.Output.{Output}
 use Rattle.liquid_template.specs.meaning.Outcome.{RendersWithin}
-use Rattle.liquid_template.specs.laws.IsolatedFrames.{SameIsolatedRun, IsolatedFromOutside, IsolatedOutsidesAgree}
+use Rattle.liquid_template.specs.laws.IsolatedFrames.{IsolatedFromOutside, IsolatedOutsidesAgree}
 use Rattle.liquid_template.proofs.Framing.{renders_framed, renders_memory, becomes_itself, first_is}
 
 module _ {Reg : Type 0} (fresh : Reg) (names : Names) (name : Option (List ℕ)) (o p : View Reg) (e : o.name ≡ p.name) where

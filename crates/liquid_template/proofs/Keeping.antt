@@ -1,5 +1,5 @@
 -- What is kept by several calls in order.
-use Rattle.std.proofs.Common.{◌≡◌, ℕ, ◌-◌, ◌<◌, List, Option, Ok, true, false, refl, sym, ap, ◌∙◌, option_map, arith}
+use Rattle.std.proofs.Common.{◌≡◌, ℕ, ◌<◌, List, Option, Ok, true, false, refl, sym, ap, ◌∙◌, option_map, arith}
 use Rattle.liquid_runtime.specs.meaning.View.{View}
 use Rattle.liquid_runtime.specs.meaning.Frames.{FrameShape}
 use Rattle.liquid_plugins.specs.meaning.Turns.{NodeMeaning, partial_turn}

@@ -1,33 +1,5 @@
 -- The result of putting a piece to an open text, and through a gate to a sink.
-use Rattle.std.proofs.Common.{
-  ◌≡◌,
-  ◌≢◌,
-  ℕ,
-  ◌+◌,
-  ◌<◌,
-  true,
-  false,
-  Bool,
-  List,
-  [],
-  ◌++◌,
-  length,
-  Option,
-  Some,
-  None,
-  Result,
-  Ok,
-  Err,
-  ◌⊎◌,
-  inl,
-  inr,
-  refl,
-  sym,
-  ap,
-  subst,
-  ◌∙◌,
-  arith,
-}
+use Rattle.std.proofs.Common.{◌≡◌, ℕ, ◌+◌, ◌<◌, true, false, Bool, List, [], ◌++◌, length, Option, Some, None, Result, Ok, Err, ◌⊎◌, inl, inr, refl, sym, ap, subst, ◌∙◌, arith}
 use Rattle.std.specs.Prelude.{MatchOption, IfSome, IsOk, IsUtf8}
 use Rattle.std.proofs.lemmas.List.{append-nil}
 use Rattle.liquid_error.specs.declared.error.Error.{Error}
@@ -37,7 +9,7 @@ use Rattle.liquid_template.specs.meaning.Sunk.{Sunk}
 use Rattle.liquid_template.specs.meaning.Output.{Output, Passed, Gated, IsPast, asked, Passes, Refuses, gated, ungated}
 use Rattle.liquid_template.specs.meaning.Pours.{Pours}
 use Rattle.liquid_template.specs.meaning.Outcome.{failed_to_render, was_stopped}
-use Rattle.liquid_template.specs.steps.PieceOut.{PieceLost, PieceFails, PieceRefused, Partial, PieceTaken, PieceOut}
+use Rattle.liquid_template.specs.steps.PieceOut.{PieceLost, PieceFails, PieceRefused, PieceTaken, PieceOut}
 use Rattle.liquid_template.specs.steps.PiecePut.{Partly, PiecePutTaken, PiecePut}
 use Rattle.liquid_template.specs.steps.Place.{target_of}
 use Rattle.liquid_template.proofs.Passing.{passes_none}

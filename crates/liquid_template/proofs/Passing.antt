@@ -1,5 +1,5 @@
 -- What passes a gate, one action after another.
-use Rattle.std.proofs.Common.{◌≡◌, ℕ, ◌+◌, true, false, Option, Some, None, ◌⊎◌, inl, inr, refl, sym, ap, subst, ◌∙◌, arith, option_map}
+use Rattle.std.proofs.Common.{◌≡◌, ℕ, ◌+◌, true, false, Option, Some, None, inl, inr, refl, ap, subst, ◌∙◌, arith, option_map}
 use Rattle.liquid_template.specs.meaning.Output.{IsPast, Passed, asked, Passes, Refuses, PassesUpTo}
 
 add_none : (p : Passed) → p ≡ asked true 0 p

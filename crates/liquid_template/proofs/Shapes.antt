@@ -99,28 +99,28 @@ module _ {X N K F T B : Type 0} (f : X → F) (t : N → T) (b : K → B) where
       ap (fold-Node X N K (NodeShape F T B) (node_step f t b)) (sym (rolls-Brief {X1 = X} {X2 = N} {X3 = K} s))
       ∙ fold-roll-Node X N K (NodeShape F T B) (node_step f t b) (layer.Brief s)
 
-  pub node_name : (s : ArrayString) → node_of f t b (Name s) ≡ chain_node (name_chain s.bytes)
+  pub node_name : (left : ℕ) (s : ArrayString) → node_of f t b (Name left s) ≡ chain_node (name_chain s.bytes)
   unfolding node_of
-  node_name s =
-      ap (fold-Node X N K (NodeShape F T B) (node_step f t b)) (sym (rolls-Name {X1 = X} {X2 = N} {X3 = K} s))
-      ∙ fold-roll-Node X N K (NodeShape F T B) (node_step f t b) (layer.Name s)
+  node_name left s =
+      ap (fold-Node X N K (NodeShape F T B) (node_step f t b)) (sym (rolls-Name {X1 = X} {X2 = N} {X3 = K} left s))
+      ∙ fold-roll-Node X N K (NodeShape F T B) (node_step f t b) (layer.Name left s)
 
-  pub node_chain : (c : FilterChain X) → node_of f t b (Chain c) ≡ chain_node (chain_of f c)
+  pub node_chain : (left : ℕ) (c : FilterChain X) → node_of f t b (Chain left c) ≡ chain_node (chain_of f c)
   unfolding node_of
-  node_chain c =
-      ap (fold-Node X N K (NodeShape F T B) (node_step f t b)) (sym (rolls-Chain {X1 = X} {X2 = N} {X3 = K} c))
-      ∙ fold-roll-Node X N K (NodeShape F T B) (node_step f t b) (layer.Chain c)
+  node_chain left c =
+      ap (fold-Node X N K (NodeShape F T B) (node_step f t b)) (sym (rolls-Chain {X1 = X} {X2 = N} {X3 = K} left c))
+      ∙ fold-roll-Node X N K (NodeShape F T B) (node_step f t b) (layer.Chain left c)
 
-  pub node_tag : (n : N) → node_of f t b (Tag n) ≡ tag_node (t n)
+  pub node_tag : (left : ℕ) (n : N) → node_of f t b (Tag left n) ≡ tag_node (t n)
   unfolding node_of
-  node_tag n =
-      ap (fold-Node X N K (NodeShape F T B) (node_step f t b)) (sym (rolls-Tag {X1 = X} {X2 = N} {X3 = K} n))
-      ∙ fold-roll-Node X N K (NodeShape F T B) (node_step f t b) (layer.Tag n)
+  node_tag left n =
+      ap (fold-Node X N K (NodeShape F T B) (node_step f t b)) (sym (rolls-Tag {X1 = X} {X2 = N} {X3 = K} left n))
+      ∙ fold-roll-Node X N K (NodeShape F T B) (node_step f t b) (layer.Tag left n)
 
-  pub node_block : (k : K) (ps : Vec (Vec (Node X N K) Global) Global)
-      → node_of f t b (Block k ps) ≡ block_node (b k) (parts_of f t b ps.items)
+  pub node_block : (left : ℕ) (k : K) (ps : Vec (Vec (Node X N K) Global) Global)
+      → node_of f t b (Block left k ps) ≡ block_node (b k) (parts_of f t b ps.items)
   unfolding node_of
-  node_block k ps =
-      ap (fold-Node X N K (NodeShape F T B) (node_step f t b)) (sym (rolls-Block {X1 = X} {X2 = N} {X3 = K} k ps))
-      ∙ fold-roll-Node X N K (NodeShape F T B) (node_step f t b) (layer.Block k ps)
+  node_block left k ps =
+      ap (fold-Node X N K (NodeShape F T B) (node_step f t b)) (sym (rolls-Block {X1 = X} {X2 = N} {X3 = K} left k ps))
+      ∙ fold-roll-Node X N K (NodeShape F T B) (node_step f t b) (layer.Block left k ps)
       ∙ ap (block_node (b k)) (parts_map ps.items _ (λ v. refl))

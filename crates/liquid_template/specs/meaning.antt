@@ -17,3 +17,4 @@ pub mod Runs
 pub mod Sandboxed
 pub mod Sunk
 pub mod TemplateOf
+pub mod Watching

@@ -9,12 +9,13 @@ ghost use Rattle.liquid_template.specs.steps.OfNodes.{BlockTakes, TagTakes, bloc
 ghost use Rattle.liquid_template.specs.steps.Outs.{RendersOut};
 ghost use Rattle.liquid_template.specs.steps.Place.{around};
 
-use crate::end::{drop_partial, end_captured, end_turn, open_text};
+use crate::end::{drop_partial, end_captured, end_partial, end_turn, open_text};
 use crate::outlet::Out;
 use crate::put::{put_chain, put_name, put_text};
 use crate::start::{Going, drop_going, start_boxed, start_node};
 use crate::store::PartialStore;
 use crate::template::Template;
+use crate::trace::locate;
 use crate::turn::{Step, take_turn};
 use liquid_error::Error;
 use liquid_plugins::{Filter, Node, Renderable};
@@ -51,7 +52,10 @@ where
         render_node(alloc, node, depth, out, scopes, answer);
         match answer {
             Ok(()) => {}
-            Err(_) => return,
+            Err(_) => {
+                locate(answer, node.left());
+                return;
+            }
         }
         if scopes.registers().interrupt.interrupted() {
             return;
@@ -87,10 +91,12 @@ where
     match node {
         Node::Text(text) => put_text(alloc, text.as_str(), out, answer),
         Node::Brief(text) => put_text(alloc, text.as_str(), out, answer),
-        Node::Name(name) => put_name::<X, S, O>(alloc, name.as_str(), out, scopes, answer),
-        Node::Chain(chain) => put_chain(alloc, chain, out, scopes, answer),
-        Node::Tag(tag) => render_tag(alloc, tag, depth, out, scopes, answer),
-        Node::Block(block, parts) => render_block(alloc, block, parts, depth, out, scopes, answer),
+        Node::Name(_, name) => put_name::<X, S, O>(alloc, name.as_str(), out, scopes, answer),
+        Node::Chain(_, chain) => put_chain(alloc, chain, out, scopes, answer),
+        Node::Tag(_, tag) => render_tag(alloc, tag, depth, out, scopes, answer),
+        Node::Block(_, block, parts) => {
+            render_block(alloc, block, parts, depth, out, scopes, answer)
+        }
     }
 }
 
@@ -169,7 +175,7 @@ where
         }
         Step::Partial(template) => {
             render_partial(alloc, template, depth, out, scopes, answer);
-            end_turn(alloc, tag, going, scopes, answer)
+            end_partial(alloc, tag, going, scopes, answer)
         }
     }
 }
@@ -254,7 +260,7 @@ where
         }
         Step::Partial(template) => {
             render_partial(alloc, template, depth, out, scopes, answer);
-            end_turn(alloc, block, going, scopes, answer)
+            end_partial(alloc, block, going, scopes, answer)
         }
     }
 }

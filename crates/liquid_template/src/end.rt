@@ -8,7 +8,7 @@ ghost use Rattle.liquid_template.specs.steps.Place.{Swapped, text_of};
 use crate::outlet::Out;
 use crate::start::Going;
 use crate::template::Template;
-use crate::trace::with_own_trace;
+use crate::trace::{with_own_trace, within_partial};
 use liquid_error::Error;
 use liquid_plugins::Renderable;
 use liquid_runtime::Scopes;
@@ -62,6 +62,38 @@ where
             false
         }
     }
+}
+
+/// Ends a turn whose partial was rendered, as `end_turn` does. An error in the partial gets the partial's name.
+#[inline(never)]
+pub(crate) fn end_partial<N, S>(
+    alloc: Global,
+    node: &N,
+    going: &mut Going<N::Progress>,
+    scopes: &mut S,
+    answer: &mut Result<(), Error>,
+) -> bool
+where
+    S: Scopes,
+    N: Renderable<S::Register>,
+    ensures ends { 0 < length (opened (S.restores scopes.old))
+        → EndsFirst (S.restores scopes.old) (S.view scopes.old) (S.restores scopes.new) (S.view scopes.new) }
+    ensures traced { ErrBecomes (refused_through (option_map (λ s. string_bytes s) going.old.trace)) answer.old answer.new }
+    ensures goes_on { result ≡ is_ok answer.new }
+    ensures progress { N.Progress.shape going.new.progress ≡ N.Progress.shape going.old.progress }
+    ensures store { S.store scopes.new ≡ S.store scopes.old }
+    ensures borrows { S.lent scopes.new ≡ S.lent scopes.old }
+{
+    match answer {
+        Ok(()) => {}
+        Err(_) => {
+            if let Some(partial) = mem::replace(&mut going.partial, None) {
+                let given = mem::replace(answer, Ok(()));
+                *answer = within_partial(alloc, given, partial.as_str());
+            }
+        }
+    }
+    end_turn(alloc, node, going, scopes, answer)
 }
 
 /// Ends a turn whose part was captured, as `end_turn` does. The text is closed, and is given to the node if there is no

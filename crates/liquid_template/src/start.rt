@@ -8,13 +8,14 @@ use liquid_plugins::Renderable;
 use liquid_runtime::Scopes;
 use std::alloc::Global;
 
-/// What is kept of a node between its turns: its progress, the trace of the turn that is being rendered, and, while a
-/// part is captured, the text that was open before.
+/// What is kept of a node between its turns: its progress, the trace of the turn that is being rendered, the text that
+/// was open before, while a part is captured, and the name of the partial that was rendered last.
 #[derive(Drop)]
 pub(crate) struct Going<P> {
     pub(crate) progress: P,
     pub(crate) trace: Option<String>,
     pub(crate) outer: Option<String>,
+    pub(crate) partial: Option<String>,
 }
 
 /// Starts a node. On an error, `answer` is that error and nothing is kept.
@@ -41,6 +42,7 @@ where
             progress,
             trace: None,
             outer: None,
+            partial: None,
         }),
         Err(error) => {
             *answer = Err(error);

@@ -17,7 +17,7 @@ use crate::partial::{find, too_deep_error};
 use crate::start::Going;
 use crate::store::PartialStore;
 use crate::template::Template;
-use crate::trace::{keep_trace, refuse, with_own_trace};
+use crate::trace::{keep_trace, refuse, with_own_trace, within_partial};
 use liquid_error::Error;
 use liquid_plugins::{Filter, Renderable, Turn};
 use liquid_runtime::{Frame, Scopes};
@@ -70,6 +70,7 @@ where
         return Step::Stop;
     }
     let kept = &mut going.trace;
+    let partial = &mut going.partial;
     match node.turn(alloc, &mut going.progress, scopes) {
         Err(error) => {
             refuse(answer, error);
@@ -93,7 +94,10 @@ where
         },
         Ok(Turn::Partial(name, frame, trace)) => {
             match partial_opened(alloc, &name, frame, trace, kept, depth, scopes, answer) {
-                Some(template) => Step::Partial(template),
+                Some(template) => {
+                    *partial = Some(name);
+                    Step::Partial(template)
+                }
                 None => Step::Stop,
             }
         }
@@ -201,5 +205,5 @@ where
     if depth == 0 {
         return Err(too_deep_error(alloc));
     }
-    find(alloc, name, scopes)
+    within_partial(alloc, find(alloc, name, scopes), name)
 }

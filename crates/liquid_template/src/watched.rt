@@ -1,15 +1,21 @@
 //! Gates that are open as long as a host says so: until a deadline, or until someone cancels.
-ghost use Rattle.std.specs.Prelude.{◌≡◌, ◌+◌, None};
-ghost use Rattle.liquid_template.specs.meaning.Output.{asked, gated_by, passed};
+ghost use Rattle.std.specs.Prelude.{◌≡◌, ◌+◌, ◌-◌, false, Bool, None};
+ghost use Rattle.liquid_template.specs.meaning.Output.{IsPast, asked, gated_by, passed};
+ghost use Rattle.liquid_template.specs.meaning.Watching.{PassesWatch};
 
 use crate::gate::Gate;
 use crate::history::History;
 
 /// Says whether rendering may continue.
 pub trait Watch {
+    // what an answer means: the watch before it, the watch after it, and the answer. `λ before after open. Unit` says
+    // nothing
+    ghost answers: { Self → Self → Bool → Type 0 };
+
     /// Called before each turn and before each piece. Once it returns `false`, rendering ends with "Rendering was
     /// stopped".
-    fn is_open(&mut self) -> bool;
+    fn is_open(&mut self) -> bool
+        ensures { answers self.old self.new result };
 }
 
 /// A gate that lets everything pass while its watch is open, and counts what has passed.
@@ -58,7 +64,12 @@ impl<W: Watch> Gate for Watched<W> {
     } };
 
     /// Lets a turn pass if the watch is open. A gate also refuses what its counts have no room for.
-    fn turn(&mut self) -> bool {
+    fn turn(&mut self) -> bool
+        ensures turns { (⟦<Watched<W> as Gate>⟧.gated self.new).turns ≡ asked result 1 (⟦<Watched<W> as Gate>⟧.gated self.old).turns }
+        ensures past { result ≡ false → IsPast (⟦<Watched<W> as Gate>⟧.gated self.old).turns 1 }
+        ensures bytes { (⟦<Watched<W> as Gate>⟧.gated self.new).bytes ≡ (⟦<Watched<W> as Gate>⟧.gated self.old).bytes }
+        ensures watched { PassesWatch W.answers self.old.watch self.new.watch (⟦<Watched<W> as Gate>⟧.gated self.old).turns 1 result }
+    {
         if self.watch.is_open() {
             if let Some(turns) = self.turns.checked_add(1) {
                 self.turns = turns;
@@ -69,8 +80,13 @@ impl<W: Watch> Gate for Watched<W> {
         false
     }
 
-    /// Lets bytes pass if the watch is open.
-    fn bytes(&mut self, count: u64) -> bool {
+    /// Lets bytes pass if the watch is open. A gate also refuses what its counts have no room for.
+    fn bytes(&mut self, count: u64) -> bool
+        ensures bytes { (⟦<Watched<W> as Gate>⟧.gated self.new).bytes ≡ asked result count (⟦<Watched<W> as Gate>⟧.gated self.old).bytes }
+        ensures past { result ≡ false → IsPast (⟦<Watched<W> as Gate>⟧.gated self.old).bytes count }
+        ensures turns { (⟦<Watched<W> as Gate>⟧.gated self.new).turns ≡ (⟦<Watched<W> as Gate>⟧.gated self.old).turns }
+        ensures watched { PassesWatch W.answers self.old.watch self.new.watch (⟦<Watched<W> as Gate>⟧.gated self.old).bytes count result }
+    {
         if self.watch.is_open() {
             if let Some(bytes) = self.bytes.checked_add(count) {
                 self.bytes = bytes;

@@ -1,2 +1,3 @@
 pub mod ArgumentSteps
 pub mod DateSteps
+pub mod Registering

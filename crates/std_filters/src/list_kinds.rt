@@ -73,7 +73,7 @@ impl FilterKind for ListKind {
             ListKind::Sort => FilterRow::new("sort", "The items in order.", &PROPERTY),
             ListKind::SortNatural => FilterRow::new(
                 "sort_natural",
-                "The same, whatever their case.",
+                "The items in order, whatever their case.",
                 &PROPERTY,
             ),
             ListKind::Sum => FilterRow::new("sum", "The sum of the items.", &PROPERTY),

@@ -1,7 +1,14 @@
 //! Registries of filters by their names.
-ghost use Rattle.std.specs.Prelude.{◌≡◌, IfOk, OnOk, map};
+ghost use Rattle.std.specs.Prelude.{◌≡◌, IfOk, OnErr, OnOk, map};
 ghost use Rattle.std_filters.specs.declared.beside.Beside.TheVariants.{Library, Own};
-ghost use Rattle.std_filters.specs.meaning.Registered.{filters_beside, register, registered, sense_beside, standard_filters};
+ghost use Rattle.std_filters.specs.meaning.Registered.{
+  filters_beside,
+  register,
+  registered,
+  sense_beside,
+  standard_filters,
+  FirstOnes,
+};
 
 use crate::beside::Beside;
 use crate::date_kind::DateKind;
@@ -141,23 +148,26 @@ fn register_own<L: FilterKind, O: FilterKind>(
     Ok(())
 }
 
-/// Registers the filter under its name. It replaces a filter that has the name already.
+/// Registers the filter under its name. It replaces a filter that has the name already. If memory runs out, nothing
+/// changes.
 pub fn register<K: FilterKind>(
     filters: &mut PluginRegistry<FilterPlugin<K>>,
     kind: K,
 ) -> Result<(), AllocError>
-    ensures { OnOk result (filters.new ≡ register K.sense filters.old kind) }
+    ensures ok { OnOk result (filters.new ≡ register K.sense filters.old kind) }
+    ensures err { OnErr result (filters.new ≡ filters.old) }
 {
     filters.register(kind.row().name, FilterPlugin { kind })?;
     Ok(())
 }
 
-/// Registers the filters under their names, in order.
+/// Registers the filters under their names, in order. If memory runs out, the first ones are registered, maybe none.
 pub fn register_all<K: FilterKind>(
     filters: &mut PluginRegistry<FilterPlugin<K>>,
     kinds: &[K],
 ) -> Result<(), AllocError>
-    ensures { OnOk result (filters.new ≡ registered K.sense filters.old kinds.now) }
+    ensures ok { OnOk result (filters.new ≡ registered K.sense filters.old kinds.now) }
+    ensures err { OnErr result (FirstOnes K.sense filters.old kinds.now filters.new) }
 {
     for kind in kinds {
         register(filters, *kind)?;

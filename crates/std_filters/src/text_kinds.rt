@@ -77,14 +77,14 @@ impl FilterKind for TextKind {
             ),
             TextKind::Capitalize => FilterRow::new(
                 "capitalize",
-                "Its first character in upper case.",
+                "The first character in upper case, the others in lower case.",
                 &NONE,
             ),
             TextKind::Downcase => FilterRow::new("downcase", "The text in lower case.", &NONE),
             TextKind::Escape => FilterRow::new("escape", "The text for HTML.", &NONE),
             TextKind::EscapeOnce => FilterRow::new(
                 "escape_once",
-                "The same, but entities stay.",
+                "The text for HTML, but entities stay.",
                 &NONE,
             ),
             TextKind::H => FilterRow::new("h", "The text for HTML.", &NONE),
@@ -121,12 +121,12 @@ impl FilterKind for TextKind {
             ),
             TextKind::ReplaceFirst => FilterRow::new(
                 "replace_first",
-                "The same at its first place.",
+                "With a text in place of another, at its first place.",
                 &REPLACEMENT,
             ),
             TextKind::ReplaceLast => FilterRow::new(
                 "replace_last",
-                "The same at its last place.",
+                "With a text in place of another, at its last place.",
                 &LAST_REPLACEMENT,
             ),
             TextKind::Rstrip => FilterRow::new("rstrip", "Without white space at the end.", &NONE),

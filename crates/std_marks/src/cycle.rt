@@ -1,5 +1,5 @@
 //! The tag `cycle`.
-ghost use Rattle.std.specs.Prelude.{◌≡◌, length, map};
+ghost use Rattle.std.specs.Prelude.{◌≡◌, length, map, OnErr};
 ghost use Rattle.liquid_error.specs.meaning.Told.{Gives};
 ghost use Rattle.liquid_runtime.specs.meaning.Written.{SameFrames};
 ghost use Rattle.liquid_plugins.specs.meaning.ExpressionOf.{expression_of};
@@ -36,7 +36,7 @@ impl Meant for Cycle {
 
 /// Writes the text of the value at the place of the group, and moves the group to its next place.
 ///
-/// Only that value is evaluated. If there is an error, the group keeps its place.
+/// Only that value is evaluated. If there is an error, or memory runs out, the group keeps its place.
 #[inline(never)]
 pub fn cycle_turn<V: HoldsMarks, R: Runtime<Register = V>>(
     alloc: Global,
@@ -46,6 +46,7 @@ pub fn cycle_turn<V: HoldsMarks, R: Runtime<Register = V>>(
     ensures answer { Gives turn_of result (cycles V.holds (cycle_of cycle.now) (tt {0}) (R.view runtime.old)).answer }
     ensures after { Leaves result (cycles V.holds (cycle_of cycle.now) (tt {0}) (R.view runtime.old)).written
         (R.view runtime.old) (R.view runtime.new) }
+    ensures kept { OnErr result (R.view runtime.new ≡ R.view runtime.old) }
     ensures frames { SameFrames (R.view runtime.old) (R.view runtime.new) }
     ensures store { R.store runtime.new ≡ R.store runtime.old }
     ensures owes { R.restores runtime.new ≡ R.restores runtime.old }

@@ -1,5 +1,5 @@
 //! Registers that hold marks.
-ghost use Rattle.std.specs.Prelude.{◌≡◌, refl, string_bytes, OnOk};
+ghost use Rattle.std.specs.Prelude.{◌≡◌, refl, string_bytes, OnErr, OnOk};
 ghost use Rattle.std_marks.specs.meaning.Held.{marks_alone, KeepsMarks, MarksIn};
 ghost use Rattle.std_marks.specs.meaning.Marks.{marks_of, with_last, with_place};
 
@@ -21,10 +21,11 @@ pub trait HoldsMarks: Fresh {
     fn marks(&self) -> &Marks
         ensures { marks_of result.now ≡ holds.marks (Self.shape self.now) };
 
-    /// Gives the group with this key a place, as `Marks::set_place` does.
+    /// Gives the group with this key a place, as `Marks::set_place` does. If memory runs out, nothing changes.
     fn move_group(&mut self, alloc: Global, key: String, place: u64) -> Result<(), AllocError>
-        ensures { OnOk result (Self.shape self.new
-            ≡ holds.with_marks (with_place (string_bytes key) place (holds.marks (Self.shape self.old))) (Self.shape self.old)) };
+        ensures ok { OnOk result (Self.shape self.new
+            ≡ holds.with_marks (with_place (string_bytes key) place (holds.marks (Self.shape self.old))) (Self.shape self.old)) }
+        ensures err { OnErr result (Self.shape self.new ≡ Self.shape self.old) };
 
     /// Sets the text of the last `ifchanged`, as `Marks::set_last` does.
     fn keep_last(&mut self, text: String)
@@ -36,7 +37,7 @@ pub trait HoldsMarks: Fresh {
 impl HoldsMarks for Marks {
     ghost holds = { marks_alone };
 
-    ghost keeps = { λ m r. refl };
+    ghost keeps = { record { put = λ m r. refl; same = λ r. refl; again = λ m n r. refl } };
 
     fn marks(&self) -> &Marks {
         self

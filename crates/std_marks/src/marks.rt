@@ -1,5 +1,5 @@
 //! The register of marks.
-ghost use Rattle.std.specs.Prelude.{◌≡◌, string_bytes, OnOk};
+ghost use Rattle.std.specs.Prelude.{◌≡◌, string_bytes, OnErr, OnOk};
 ghost use Rattle.std_marks.specs.meaning.Marks.{is_last, marks_of, no_marks, place_of, with_last, with_place};
 
 use crate::places::Places;
@@ -49,9 +49,10 @@ impl Marks {
         }
     }
 
-    /// Gives the group with this key a place.
+    /// Gives the group with this key a place. If memory runs out, nothing changes.
     pub fn set_place(&mut self, alloc: Global, key: String, place: u64) -> Result<(), AllocError>
-        ensures { OnOk result (marks_of self.new ≡ with_place (string_bytes key) place (marks_of self.old)) }
+        ensures ok { OnOk result (marks_of self.new ≡ with_place (string_bytes key) place (marks_of self.old)) }
+        ensures err { OnErr result (marks_of self.new ≡ marks_of self.old) }
     {
         let mut places = match self.places.take() {
             Some(places) => places,

@@ -44,7 +44,7 @@ fn render(alloc: Global, language: &Rc<StdLanguage>, theme: &Theme) -> Result<Re
 /// Writes the page of a theme, up to its error if it has one.
 fn write_page(rt: &HostRuntime, language: &Rc<StdLanguage>, folder: &str) -> Result<(), Fault> {
     let theme = read_theme(rt, folder)?;
-    let Rendered { output, end } = render(rt.alloc(), language, &theme)?;
+    let Rendered { output, end, .. } = render(rt.alloc(), language, &theme)?;
     let stdout = rt.stdout();
     io::writer(&stdout).write_all(output.as_bytes())?;
     Ok(end?)

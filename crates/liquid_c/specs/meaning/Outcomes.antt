@@ -1,9 +1,30 @@
 -- What a call leaves with its caller: bytes in the caller's memory, and a record that says how the page ended.
-use Rattle.std.specs.Prelude.{◌≡◌, ℕ, ◌<◌, ◌≤◌, min, ◌⊎◌, List, ◌++◌, length, take, drop, nat_le, Option, None, Some, map, if◌then◌else◌}
+use Rattle.std.specs.Prelude.{
+  ◌≡◌,
+  ℕ,
+  ◌<◌,
+  ◌≤◌,
+  min,
+  ◌⊎◌,
+  List,
+  ◌++◌,
+  length,
+  take,
+  drop,
+  nat_le,
+  Option,
+  None,
+  Some,
+  IfSome,
+  map,
+  if◌then◌else◌,
+}
 use Rattle.liquid_error.specs.declared.place.Place.{Place}
+use Rattle.liquid_error.specs.meaning.ErrorText.{error_text}
 use Rattle.liquid_pages.specs.declared.fault.PageText.{PageText}
 use Rattle.liquid_pages.specs.declared.fault.PageText.TheVariants.{Template, Globals, PartialName, PartialText}
 use Rattle.liquid_pages.specs.meaning.Faults.{Fault, no_text, bad_json, no_globals, unparsed, refused}
+use Rattle.liquid_pages.specs.meaning.FaultText.{fault_text}
 use Rattle.liquid_pages.specs.meaning.Shown.{Page, Begins, bytes_of_partial}
 use Rattle.liquid_c.specs.declared.page.Outcome.{Outcome}
 use Rattle.liquid_c.specs.declared.page.Page.{Page as Asked}
@@ -26,7 +47,7 @@ IsPlaced (Some place) o = (o.line ≡ place.line) × (o.column ≡ place.column)
 -- an outcome of this kind, and nothing else in it
 abbrev pub outcome_alone : ℕ → Outcome
 outcome_alone kind =
-    record { kind = kind; which = 0; partial = 0; line = 0; column = 0; needed = 0; written = 0; message_len = 0 }
+    record { kind = kind; which = 0; partial = 0; line = 0; column = 0; needed = 0; written = 0; message_len = 0; limit = 0 }
 
 -- no text of the page is named
 abbrev pub IsUnnamed : Outcome → Type 0
@@ -39,23 +60,42 @@ IsWhich Globals o = (o.which ≡ 1) × (o.partial ≡ 0)
 IsWhich (PartialName n) o = (o.which ≡ 2) × (o.partial ≡ n)
 IsWhich (PartialText n) o = (o.which ≡ 3) × (o.partial ≡ n)
 
--- where a fault is; the place of bad JSON is left open
+-- where a fault is. Left open are the place of bad JSON, and for an error of rendering the text that it is in, and its place
+-- if reading a partial did not find it
 abbrev pub IsWhere : Fault → Outcome → Type 0
 IsWhere (unparsed refusal) o = IsPlaced refusal.place o × IsUnnamed o
-IsWhere (refused refusal) o = IsPlaced refusal.place o × IsUnnamed o
-IsWhere bad_json o = IsUnnamed o
-IsWhere (no_globals refusal) o = IsPlaced refusal.place o × IsUnnamed o
+IsWhere (refused refusal) o = IfSome refusal.place (λ place. IsPlaced (Some place) o)
+IsWhere bad_json o = IsWhich Globals o
+IsWhere (no_globals refusal) o = IsPlaced None o × IsUnnamed o
 IsWhere (no_text which) o = IsPlaced None o × IsWhich which o
+
+-- the limit that stopped the page: none (0), that of turns (1) or that of bytes (2). Only an error of rendering has one;
+-- which it is, is left open
+abbrev pub IsLimited : Fault → Outcome → Type 0
+IsLimited (unparsed refusal) o = o.limit ≡ 0
+IsLimited (refused refusal) o = o.limit ≤ 2
+IsLimited bad_json o = o.limit ≡ 0
+IsLimited (no_globals refusal) o = o.limit ≡ 0
+IsLimited (no_text which) o = o.limit ≡ 0
+
+-- the message is as long as this text, if it is known, or has no byte if there was no memory for it
+abbrev pub IsSaid : Option (List ℕ) → ℕ → Type 0
+IsSaid text len = IfSome text (λ bytes. (len ≡ 0) ⊎ (len ≡ length bytes))
 
 -- how a page ended that was rendered into so much room: whole, or too long for it (7); or its fault
 abbrev pub Reports : Option Fault → ℕ → Outcome → Type 0
 Reports None room o =
-    (o.kind ≡ (if nat_le o.needed room then 0 else 7)) × (IsPlaced None o × (IsUnnamed o × (o.message_len ≡ 0)))
-Reports (Some fault) room o = (o.kind ≡ kind_of fault) × IsWhere fault o
+    (o.kind ≡ (if nat_le o.needed room then 0 else 7)) × (IsPlaced None o × (IsUnnamed o × ((o.limit ≡ 0) × (o.message_len ≡ 0))))
+Reports (Some fault) room o =
+    (o.kind ≡ kind_of fault) × (IsWhere fault o × (IsLimited fault o × IsSaid (fault_text fault) o.message_len))
 
 -- memory ran out (6), which has no place
 abbrev pub OutOfMemory : Outcome → Type 0
-OutOfMemory o = (o.kind ≡ 6) × (IsPlaced None o × IsUnnamed o)
+OutOfMemory o = (o.kind ≡ 6) × (IsPlaced None o × (IsUnnamed o × (o.limit ≡ 0)))
+
+-- the same, and the message is that of an error that is out of memory
+abbrev pub SaysMemory : Outcome → Type 0
+SaysMemory o = OutOfMemory o × IsSaid (Some (error_text None)) o.message_len
 
 -- memory that held these bytes has the first of what was rendered, as many as it has room for, and then what it held
 pub record Leaves (page : Page) (old new : List ℕ) (o : Outcome) : Type 0 where
@@ -64,7 +104,7 @@ pub record Leaves (page : Page) (old new : List ℕ) (o : Outcome) : Type 0 wher
   pub written : o.written ≡ min (length rendered) (length old)
   pub bytes : new ≡ take o.written rendered ++ drop o.written old
   -- what was rendered is the page's output, and the outcome says how it ended; out of memory it is a beginning of it
-  pub ends : (OutOfMemory o × Begins rendered page) ⊎ ((rendered ≡ page.output) × Reports page.fault (length old) o)
+  pub ends : (SaysMemory o × Begins rendered page) ⊎ ((rendered ≡ page.output) × Reports page.fault (length old) o)
 
 -- options that there are none of are refused (8), and nothing is written
 abbrev pub Unasked : List ℕ → List ℕ → Outcome → Type 0

@@ -9,6 +9,7 @@ use Rattle.liquid_error.specs.declared.error.Error.TheOpen.{Error-F}
 use Rattle.liquid_error.specs.declared.report.Context.{Context}
 use Rattle.liquid_error.specs.declared.report.Trace.{Trace}
 use Rattle.liquid_error.specs.declared.report.Report.{Report}
+use Rattle.liquid_error.specs.meaning.Sites.{place_of}
 use Rattle.liquid_error.specs.meaning.Refusal.{Entry, Note, Refusal, Reason, no_reason, by_text, with_cause, reason_of_told}
 
 abbrev pub entry_of : Context → Entry
@@ -24,7 +25,7 @@ refusal_of r = record {
   contexts = map entry_of r.contexts.items;
   traces =
       map note_of r.traces.items;
-  place = r.place;
+  place = place_of r.location;
   cause = no_reason;
 }
 

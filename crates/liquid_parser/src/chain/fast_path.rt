@@ -24,7 +24,7 @@ use liquid_error::Error;
 use liquid_grammar::{
     ChainStep, FilterStart, Head, chain_step, expression_end, expression_start, value_head,
 };
-use liquid_plugins::{BRIEF_LIMIT, Brief, FilterChain, Node, ParseFilter, PluginRegistry};
+use liquid_plugins::{BRIEF_LIMIT, Brief, FilterChain, Node, ParseFilter, PluginRegistry, left_of};
 use std::alloc::{AllocError, Global};
 
 /// The result of a walk over an expression.
@@ -79,11 +79,14 @@ fn fast_from_chain<'a, F: ParseFilter + Drop, T: ParseTag<F> + Drop, B: ParseBlo
     // Most expressions are names.
     if let Head::Name(name) = head {
         if let Some(rest) = expression_end(following) {
-            return Ok(Walked::Whole((name_node::<F, T, B>(alloc, name)?, rest)));
+            let node = name_node::<F, T, B>(alloc, left_of(start), name)?;
+            return Ok(Walked::Whole((node, rest)));
         }
     }
     match fast_chain(alloc, head, following, &language.filters)? {
-        Walked::Whole((chain, rest)) => Ok(Walked::Whole((Node::Chain(chain), rest))),
+        Walked::Whole((chain, rest)) => {
+            Ok(Walked::Whole((Node::Chain(left_of(start), chain), rest)))
+        }
         Walked::NoExpression => Ok(Walked::NoExpression),
         Walked::Undecided => Ok(Walked::Undecided),
     }
@@ -97,20 +100,21 @@ pub(crate) fn no_expression(alloc: Global, source: &str, brace: &str) -> Error
     refused_at(alloc, source, "Invalid liquid", brace)
 }
 
-/// Returns the node of a name alone.
+/// Returns the node of a name alone, where this many bytes of the source are left.
 #[inline(always)]
 pub(crate) fn name_node<F: ParseFilter, T: ParseTag<F>, B: ParseBlock<F>>(
     alloc: Global,
+    left: u32,
     name: &str,
 ) -> Result<Node<F::Filter, T::Node, B::Node>, AllocError>
     ensures { IfOk result (λ node. node_of F.Filter.shape T.Node.shape B.Node.shape node ≡ chain_node (name_chain name.now)) }
 {
     if name.len() > BRIEF_LIMIT {
-        return Ok(Node::Chain(FilterChain::of_name(alloc, name)?));
+        return Ok(Node::Chain(left, FilterChain::of_name(alloc, name)?));
     }
     let mut brief = Brief::new();
     brief.push_str(name);
-    Ok(Node::Name(brief))
+    Ok(Node::Name(left, brief))
 }
 
 /// Returns the chain whose value has this beginning, where the text follows it, and what follows the expression's end.

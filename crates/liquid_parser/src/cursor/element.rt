@@ -24,7 +24,7 @@ use crate::plugin::tag::ParseTag;
 use crate::reading::place::check;
 use liquid_error::Error;
 use liquid_grammar::{Element, match_white, parts_are_matches};
-use liquid_plugins::{BRIEF_LIMIT, Brief, Node, ParseFilter};
+use liquid_plugins::{BRIEF_LIMIT, Brief, Node, ParseFilter, left_of};
 use std::alloc::{AllocError, Global};
 
 /// Text that is written unchanged. It borrows the source.
@@ -107,10 +107,10 @@ impl<'a> Exp<'a> {
     {
         // Most expressions are names, whose text doesn't have to be walked again.
         if let Some(name) = self.name {
-            return Ok(name_node::<F, T, B>(alloc, name)?);
+            return Ok(name_node::<F, T, B>(alloc, left_of(self.chain), name)?);
         }
         let chain = parse_chain(alloc, self.source, self.chain, &language.filters)?;
-        Ok(Node::Chain(chain))
+        Ok(Node::Chain(left_of(self.chain), chain))
     }
 }
 

@@ -14,7 +14,7 @@ use crate::plugin::tag::ParseTag;
 use crate::reading::place::place_in;
 use crate::reading::stack::OpenBlock;
 use liquid_error::Error;
-use liquid_plugins::{Node, ParseFilter, PluginRegistry};
+use liquid_plugins::{Node, ParseFilter, PluginRegistry, left_of};
 use std::alloc::Global;
 
 /// Returns the node of a tag.
@@ -28,7 +28,7 @@ pub(crate) fn tag_node<F: ParseFilter, T: ParseTag<F>, B: ParseBlock<F>>(
         (tag_given source t (registry_of F.makes filters.now) (T.gives plug_in.now))) }
 {
     match plug_in.parse(alloc, tag.tokens, filters) {
-        Ok(made) => Ok(Node::Tag(made)),
+        Ok(made) => Ok(Node::Tag(left_of(tag.from), made)),
         Err(error) => Err(error.or_place(place_in(tag.tokens.source, tag.from))),
     }
 }
@@ -101,7 +101,7 @@ pub(crate) fn close_block<'a, F: ParseFilter, T: ParseTag<F>, B: ParseBlock<F>>(
     parts.push(nodes)?;
     match kind.finish(alloc, plan, BlockBody::Parts(parts.len())) {
         Ok(made) => {
-            before.push(Node::Block(made, parts))?;
+            before.push(Node::Block(left_of(from), made, parts))?;
             Ok(before)
         }
         Err(error) => Err(error.or_place(place_in(source, from))),
@@ -129,7 +129,7 @@ pub(crate) fn close_escaped<'a, F: ParseFilter, T: ParseTag<F>, B: ParseBlock<F>
     drop(parts);
     match kind.finish(alloc, plan, BlockBody::Escaped(text)) {
         Ok(made) => {
-            before.push(Node::Block(made, Vec::new(alloc)))?;
+            before.push(Node::Block(left_of(from), made, Vec::new(alloc)))?;
             Ok(before)
         }
         Err(error) => Err(error.or_place(place_in(source, from))),

@@ -22,9 +22,11 @@ module _ {F T P B : Type 0} (l : Lang F T P B) where
   abbrev pub Compiled : Texts → Found F T B → Type 0
   Compiled texts finds = (name : List ℕ) → FoundAs (get texts name) (get finds name)
 
-  -- a source and a language have at most one such store
+  -- a source and a language have exactly one such store
   abbrev pub OneStore : Type 0
-  OneStore = (texts : Texts) (finds others : Found F T B) → Compiled texts finds → Compiled texts others → others ≡ finds
+  OneStore =
+      (texts : Texts) → (finds : Found F T B) × Compiled texts finds
+      × ((others : Found F T B) → Compiled texts others → others ≡ finds)
 
 -- the number of texts that a request parses: one if the source has the name, otherwise none
 abbrev pub once : Bool → ℕ

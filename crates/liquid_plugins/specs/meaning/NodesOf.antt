@@ -21,14 +21,14 @@ IsText node bytes =
     ((t : String Global) × (node ≡ Text t) × (string_bytes t ≡ bytes)) ⊎ ((t : ArrayString) × (node ≡ Brief t) × (t.bytes ≡ bytes))
 
 module _ {X N K F T B : Type 0} (filter : X → F) (tag : N → T) (block : K → B) where
-  -- one level of a node, with each node inside already given as its shape
+  -- one level of a node, with each node inside already given as its shape. Where the node begins is no part of its meaning
   abbrev pub node_step : Node-F X N K (NodeShape F T B) → NodeShape F T B
   node_step (Node-F.Text s) = text_node (string_bytes s)
   node_step (Node-F.Brief s) = text_node s.bytes
-  node_step (Node-F.Name s) = chain_node (name_chain s.bytes)
-  node_step (Node-F.Chain c) = chain_node (chain_of filter c)
-  node_step (Node-F.Tag n) = tag_node (tag n)
-  node_step (Node-F.Block b parts) = block_node (block b) (parts_from (map (λ ns. nodes_from ns.items) parts.items))
+  node_step (Node-F.Name left s) = chain_node (name_chain s.bytes)
+  node_step (Node-F.Chain left c) = chain_node (chain_of filter c)
+  node_step (Node-F.Tag left n) = tag_node (tag n)
+  node_step (Node-F.Block left b parts) = block_node (block b) (parts_from (map (λ ns. nodes_from ns.items) parts.items))
 
   -- the shape of a node
   unfoldable pub node_of : Node X N K → NodeShape F T B

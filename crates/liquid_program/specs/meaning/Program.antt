@@ -1,5 +1,5 @@
 -- What the program does, by its words, the files that they name and the sink that it writes to.
-use Rattle.std.specs.Prelude.{◌≡◌, ℕ, Bool, true, false, ◌⊎◌, List, [], Option, Result, Ok, Err}
+use Rattle.std.specs.Prelude.{◌≡◌, ℕ, Bool, true, false, ◌⊎◌, List, [], Option, None, Some, Result, Ok, Err, nat_eq, if◌then◌else◌}
 use Rattle.std.specs.Io.KnownBytes.{Appends}
 use Rattle.liquid_error.specs.declared.error.Error.{Error}
 use Rattle.liquid_runtime.specs.meaning.Maps.{Names}
@@ -21,14 +21,19 @@ page_frame standard false = Open
 page_frame false true = Sandboxed
 page_frame true true = Isolated
 
+-- 0 means no limit
+abbrev pub limit_of : Option ℕ → Option ℕ
+limit_of None = None
+limit_of (Some number) = if nat_eq number 0 then None else Some number
+
 -- the options of the page
 abbrev pub page_options : Options → PageOptions
 page_options options = record {
   frame = page_frame options.standard options.sandboxed;
   decimals = options.decimals;
   lenient = options.lenient;
-  max_turns = options.max_turns;
-  max_bytes = options.max_bytes;
+  max_turns = limit_of options.max_turns;
+  max_bytes = limit_of options.max_bytes;
 }
 
 -- the text, parsed in the standard language or in the other one, was rendered as a page, with these options, over these

@@ -8,6 +8,7 @@ use Rattle.liquid_program.specs.declared.fault.Fault.TheVariants.{
   Unreadable,
   UnreadableInFolder,
   Unwritable,
+  OwnFile,
   BadJson,
   NoGlobals,
 }
@@ -19,6 +20,7 @@ fault_status Usage = 2
 fault_status (Unreadable path) = 3
 fault_status (UnreadableInFolder path) = 3
 fault_status (Unwritable path) = 1
+fault_status (OwnFile path) = 1
 fault_status (BadJson path note) = 3
 fault_status (NoGlobals error note) = 3
 

@@ -7,7 +7,7 @@ use Rattle.liquid_runtime.specs.meaning.View.{View}
 use Rattle.liquid_runtime.specs.meaning.Written.{with_written}
 use Rattle.liquid_plugins.specs.meaning.Turns.{NodeMeaning}
 use Rattle.liquid_template.specs.meaning.Run.{Run, Action, checkpoints}
-use Rattle.liquid_template.specs.meaning.Actions.{and_then, asks, done, refuses, silent, under, writes, writes_value}
+use Rattle.liquid_template.specs.meaning.Actions.{and_then, done, refuses, silent, under, writes, writes_value}
 use Rattle.liquid_template.specs.meaning.Nodes.{Setting, answered, turns}
 
 -- the checkpoints of a run

@@ -1,12 +1,11 @@
 -- What each function of the renderer writes, where this many partials may still be nested.
-use Rattle.std.specs.Prelude.{ℕ, List, [], Option, option_map}
-use Rattle.liquid_runtime.specs.meaning.Frames.{FrameShape}
+use Rattle.std.specs.Prelude.{ℕ, [], Option, option_map}
 use Rattle.liquid_plugins.specs.meaning.Chain.{FilterMeaning}
-use Rattle.liquid_plugins.specs.meaning.Turns.{NodeMeaning, TurnShape}
+use Rattle.liquid_plugins.specs.meaning.Turns.{NodeMeaning}
 use Rattle.liquid_plugins.specs.meaning.Nodes.{NodeShape, Parts}
 use Rattle.liquid_template.specs.meaning.Run.{Action}
-use Rattle.liquid_template.specs.meaning.Actions.{under, part_at}
-use Rattle.liquid_template.specs.meaning.Nodes.{Setting, performed, played, run_node, run_parts}
+use Rattle.liquid_template.specs.meaning.Actions.{part_at}
+use Rattle.liquid_template.specs.meaning.Nodes.{Setting, played, run_node, run_parts}
 use Rattle.liquid_template.specs.meaning.Partials.{Found, partial_in, partials_at}
 
 -- a setting, from what the filters, tags and blocks mean, and from what the store finds, if there is one

@@ -9,6 +9,11 @@ use Rattle.liquid_plugins.specs.meaning.Turns.{NodeMeaning}
 abbrev pub Answer : Type 0
 Answer = Result (Unit {0}) Error
 
+-- the later answer says what the earlier one says
+abbrev pub SaysSame : Answer → Answer → Type 0
+SaysSame (Ok x) after = after ≡ Ok x
+SaysSame (Err e) after = IsErrAnd after (λ new. told new ≡ told e)
+
 -- a start: its progress, or its refusal
 abbrev pub Begins : {N R Reg : Type 0} → NodeMeaning N R Reg → N → View Reg → View Reg → Answer → Option R → Type 0
 Begins m n v w answer (Some p) = IsOk answer × ((m.starts n v).answer ≡ Ok p) × (w ≡ with_written (m.starts n v).written v)

@@ -1,5 +1,5 @@
 -- Filters by their names.
-use Rattle.std.specs.Prelude.{List, [], ◌∷◌, map, Option}
+use Rattle.std.specs.Prelude.{◌≡◌, ℕ, List, [], ◌∷◌, map, take, Option}
 use Rattle.std.specs.FinMap.{empty, insert}
 use Rattle.liquid_dates.specs.declared.date_time.DateTime.{DateTime}
 use Rattle.liquid_runtime.specs.meaning.Maps.{NameMap}
@@ -28,6 +28,10 @@ register sense before kind = insert before (sense kind).name (record { kind = ki
 abbrev pub registered : {K : Type 0} → (K → FilterSense) → NameMap (FilterPlugin K) → List K → NameMap (FilterPlugin K)
 registered sense before [] = before
 registered sense before (kind ∷ kinds) = registered sense (register sense before kind) kinds
+
+-- the first ones of these filters are registered, and the others are not
+abbrev pub FirstOnes : {K : Type 0} → (K → FilterSense) → NameMap (FilterPlugin K) → List K → NameMap (FilterPlugin K) → Type 0
+FirstOnes sense before kinds after = (count : ℕ) × (after ≡ registered sense before (take count kinds))
 
 -- all kinds but `date`
 abbrev pub timeless_kinds : List StdKind

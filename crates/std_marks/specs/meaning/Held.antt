@@ -12,9 +12,12 @@ pub record MarksIn (Reg : Type 0) : Type 0 where
 abbrev pub marks_alone : MarksIn MarksShape
 marks_alone = record { marks = λ m. m; with_marks = λ m old. m }
 
--- what is put into a register is what it holds
-abbrev pub KeepsMarks : {Reg : Type 0} → MarksIn Reg → Type 0
-KeepsMarks {Reg} held = (m : MarksShape) (r : Reg) → held.marks (held.with_marks m r) ≡ m
+-- what is put into a register is what it holds; the rest of the register stays, so putting what it holds already changes
+-- nothing, and marks that are put in the place of others leave what they would leave without those
+pub record KeepsMarks {Reg : Type 0} (held : MarksIn Reg) : Type 0 where
+  pub put : (m : MarksShape) (r : Reg) → held.marks (held.with_marks m r) ≡ m
+  pub same : (r : Reg) → held.with_marks (held.marks r) r ≡ r
+  pub again : (m n : MarksShape) (r : Reg) → held.with_marks n (held.with_marks m r) ≡ held.with_marks n r
 
 -- the marks that a view holds, and the view with others
 abbrev pub marks_in : {Reg : Type 0} → MarksIn Reg → View Reg → MarksShape

@@ -1,4 +1,4 @@
-use Rattle.std.proofs.Common.{[], ◌≡◌, ◌+◌, ◌≤◌, rules, refl, sym, ap, subst, ◌∙◌, is_some, option_map, string_bytes}
+use Rattle.std.proofs.Common.{[], ◌≡◌, ◌+◌, ◌≤◌, rules, refl, sym, ap, subst, ◌∙◌, is_some, string_bytes}
 use Rattle.liquid_plugins.specs.meaning.NodesOf.{node_of, nodes_of}
 use Rattle.liquid_plugins.specs.meaning.Size.{size_node, size_nodes, size_parts}
 use Rattle.liquid_template.specs.steps.PartsOf.{parts_of}
@@ -8,7 +8,7 @@ use Rattle.liquid_template.proofs.Shapes.{node_tag, node_block}
 use Rattle.liquid_template.proofs.Renderings.{stands, stands_not, left_more, left_none, none_yet, start_goes_at, node_puts, node_chains}
 use Rattle.liquid_template.proofs.Renderings.{node_tags, node_blocks, part_renders, no_part_renders}
 use Rattle.liquid_template.proofs.Framing.{owed_open, framed_kept}
-use Rattle.liquid_template.proofs.Goings.{renders_ok, done_ok, start_none, takes_more, takes_ok, takes_last, turns_over, node_fails}
+use Rattle.liquid_template.proofs.Goings.{renders_ok, says_same, done_ok, start_none, takes_more, takes_ok, takes_last, turns_over, node_fails}
 use Rattle.liquid_template.proofs.Goings.{node_stops, node_goes, nodes_over, opens_kept, opens_taken, captured_taken, true_not_false}
 use Rattle.liquid_template.proofs.Capturing.{text_stays, closed_aside, closed_around, text_caught, nothing_open, nothing_aside}
 use Rattle.liquid_template.proofs.Keeping.{keeps_all, keeps_store, keeps_both, keeps_ended, keeps_asked, keeps_unless, tags_open_none}
@@ -34,8 +34,8 @@ render_list-returns-in-Err g t c =
     nodes_drop g.X.Meant.shape g.T.Meant.shape g.B.Meant.shape c.args.nodes.now c.loop-node.node-index c.node-item.result
     c.loop-node-test.true c.node-item.is in
     record {
-      renders = c.loop-node.invariant.renders _ _ _ (node_fails _ _ _ _ _ q _ _ _ _ _
-          (rw c.loop-node.invariant.keeps.store_finds at c.render_node.ensures.renders) _ c.in-Err.is);
+      renders = says_same _ _ _ _ _ _ _ c.locate.ensures (c.loop-node.invariant.renders _ _ _ (node_fails _ _ _ _ _ q _ _ _ _ _
+          (rw c.loop-node.invariant.keeps.store_finds at c.render_node.ensures.renders) _ c.in-Err.is));
       owes = c.render_node.ensures.owes
           ∙ c.loop-node.invariant.owes;
       keeps = keeps_both _ _ _ _ _ _ _ _ c.loop-node.invariant.keeps c.render_node.ensures.keeps;
@@ -92,7 +92,7 @@ pub render_node-render_tag-requires : goal.render_node-render_tag-requires
 render_node-render_tag-requires g t c =
     let h : size_node (node_of g.X.Meant.shape g.T.Meant.shape g.B.Meant.shape c.args.node.now) ≡ 1 =
     ap size_node (ap (node_of g.X.Meant.shape g.T.Meant.shape g.B.Meant.shape) c.in-Tag.is
-    ∙ node_tag g.X.Meant.shape g.T.Meant.shape g.B.Meant.shape _) in
+    ∙ node_tag g.X.Meant.shape g.T.Meant.shape g.B.Meant.shape _ _) in
     search rules
 
 pub render_node-render_block-requires : goal.render_node-render_block-requires
@@ -101,7 +101,7 @@ render_node-render_block-requires g t c =
     (node_of g.X.Meant.shape g.T.Meant.shape g.B.Meant.shape c.args.node.now) = ap
     (λ x. size_parts (parts_of g.X.Meant.shape g.T.Meant.shape g.B.Meant.shape x) + 1) c.deref.ensures.value
     ∙ sym (ap size_node (ap (node_of g.X.Meant.shape g.T.Meant.shape g.B.Meant.shape) c.in-Block.is
-    ∙ node_block g.X.Meant.shape g.T.Meant.shape g.B.Meant.shape _ _)) in
+    ∙ node_block g.X.Meant.shape g.T.Meant.shape g.B.Meant.shape _ _ _)) in
     search rules
 
 pub render_node-returns-in-Text-clause-renders : goal.render_node-returns-in-Text-clause-renders
@@ -118,22 +118,22 @@ render_node-returns-in-Brief-clause-renders g t c =
 pub render_node-returns-in-Name-clause-renders : goal.render_node-returns-in-Name-clause-renders
 render_node-returns-in-Name-clause-renders g t c =
     node_chains _ _ _ _ _ _ _ _ _ (ap (node_of g.X.Meant.shape g.T.Meant.shape g.B.Meant.shape) c.in-Name.is
-    ∙ node_name g.X.Meant.shape g.T.Meant.shape g.B.Meant.shape _) (rw c.as_str-in-Name.ensures.value at c.put_name.ensures.renders)
+    ∙ node_name g.X.Meant.shape g.T.Meant.shape g.B.Meant.shape _ _) (rw c.as_str-in-Name.ensures.value at c.put_name.ensures.renders)
 
 pub render_node-returns-in-Chain-clause-renders : goal.render_node-returns-in-Chain-clause-renders
 render_node-returns-in-Chain-clause-renders g t c =
     node_chains _ _ _ _ _ _ _ _ _ (ap (node_of g.X.Meant.shape g.T.Meant.shape g.B.Meant.shape) c.in-Chain.is
-    ∙ node_chain g.X.Meant.shape g.T.Meant.shape g.B.Meant.shape _) c.put_chain.ensures.renders
+    ∙ node_chain g.X.Meant.shape g.T.Meant.shape g.B.Meant.shape _ _) c.put_chain.ensures.renders
 
 pub render_node-returns-in-Tag-clause-renders : goal.render_node-returns-in-Tag-clause-renders
 render_node-returns-in-Tag-clause-renders g t c =
     node_tags _ _ _ _ _ _ _ _ _ (ap (node_of g.X.Meant.shape g.T.Meant.shape g.B.Meant.shape) c.in-Tag.is
-    ∙ node_tag g.X.Meant.shape g.T.Meant.shape g.B.Meant.shape _) c.render_tag.ensures.renders
+    ∙ node_tag g.X.Meant.shape g.T.Meant.shape g.B.Meant.shape _ _) c.render_tag.ensures.renders
 
 pub render_node-returns-in-Block-clause-renders : goal.render_node-returns-in-Block-clause-renders
 render_node-returns-in-Block-clause-renders g t c =
     node_blocks _ _ _ _ _ _ _ _ _ _ (ap (node_of g.X.Meant.shape g.T.Meant.shape g.B.Meant.shape) c.in-Block.is
-    ∙ node_block g.X.Meant.shape g.T.Meant.shape g.B.Meant.shape _ _) (rw c.deref.ensures.value at c.render_block.ensures.renders)
+    ∙ node_block g.X.Meant.shape g.T.Meant.shape g.B.Meant.shape _ _ _) (rw c.deref.ensures.value at c.render_block.ensures.renders)
 
 pub render_tag-returns-in-None-clause-renders : goal.render_tag-returns-in-None-clause-renders
 render_tag-returns-in-None-clause-renders g t c =
@@ -278,15 +278,15 @@ take_tag-returns-else-goes_on-clause-keeps g t c =
 
 pub take_tag-returns-in-Partial : goal.take_tag-returns-in-Partial
 take_tag-returns-in-Partial g t c =
-    let ends = c.end_turn-in-Partial.ensures.ends (owed_open _ _ _ _ _ c.in-Partial.ensures.turned.0.owes c.render_partial.ensures.owes) in
+    let ends = c.end_partial.ensures.ends (owed_open _ _ _ _ _ c.in-Partial.ensures.turned.0.owes c.render_partial.ensures.owes) in
     record {
-      takes = rw c.end_turn-in-Partial.ensures.progress (opens_taken _ _ _ _ _ _ _ _ _ _ _ _ _ _ _ _ _ _ _ _
-          c.in-Partial.ensures.turned.0 c.render_partial.ensures.owes ends _ _ _ c.end_turn-in-Partial.ensures.goes_on
-          c.end_turn-in-Partial.ensures.traced (rw c.in-Partial.ensures.keeps.store_finds at c.render_partial.ensures.renders));
+      takes = rw c.end_partial.ensures.progress (opens_taken _ _ _ _ _ _ _ _ _ _ _ _ _ _ _ _ _ _ _ _
+          c.in-Partial.ensures.turned.0 c.render_partial.ensures.owes ends _ _ _ c.end_partial.ensures.goes_on
+          c.end_partial.ensures.traced (rw c.in-Partial.ensures.keeps.store_finds at c.render_partial.ensures.renders));
       owes = opens_kept _ _ _ _ _ _ _ _ _ _ _ _ _ _ _ _ _ _ c.in-Partial.ensures.turned.0 c.render_partial.ensures.owes ends;
       keeps = keeps_ended _ _ _ _ _ _ _ _ (keeps_both _ _ _ _ _ _ _ _
           (keeps_unless _ _ _ _ _ _ (tags_open_none g.T.Renderable.means g.B.Renderable.means) c.in-Partial.ensures.keeps)
-          c.render_partial.ensures.keeps) c.end_turn-in-Partial.ensures.store c.end_turn-in-Partial.ensures.borrows;
+          c.render_partial.ensures.keeps) c.end_partial.ensures.store c.end_partial.ensures.borrows;
       around = c.render_partial.ensures.around ∙ c.in-Partial.ensures.around;
     }
 
@@ -421,15 +421,15 @@ take_block-returns-in-Captured-clause-around g t c =
 
 pub take_block-returns-in-Partial : goal.take_block-returns-in-Partial
 take_block-returns-in-Partial g t c =
-    let ends = c.end_turn-in-Partial.ensures.ends (owed_open _ _ _ _ _ c.in-Partial.ensures.turned.0.owes c.render_partial.ensures.owes) in
+    let ends = c.end_partial.ensures.ends (owed_open _ _ _ _ _ c.in-Partial.ensures.turned.0.owes c.render_partial.ensures.owes) in
     record {
-      takes = rw c.end_turn-in-Partial.ensures.progress (opens_taken _ _ _ _ _ _ _ _ _ _ _ _ _ _ _ _ _ _ _ _
-          c.in-Partial.ensures.turned.0 c.render_partial.ensures.owes ends _ _ _ c.end_turn-in-Partial.ensures.goes_on
-          c.end_turn-in-Partial.ensures.traced (rw c.in-Partial.ensures.keeps.store_finds at c.render_partial.ensures.renders));
+      takes = rw c.end_partial.ensures.progress (opens_taken _ _ _ _ _ _ _ _ _ _ _ _ _ _ _ _ _ _ _ _
+          c.in-Partial.ensures.turned.0 c.render_partial.ensures.owes ends _ _ _ c.end_partial.ensures.goes_on
+          c.end_partial.ensures.traced (rw c.in-Partial.ensures.keeps.store_finds at c.render_partial.ensures.renders));
       owes = opens_kept _ _ _ _ _ _ _ _ _ _ _ _ _ _ _ _ _ _ c.in-Partial.ensures.turned.0 c.render_partial.ensures.owes ends;
       keeps = keeps_ended _ _ _ _ _ _ _ _ (keeps_both _ _ _ _ _ _ _ _
           (keeps_unless _ _ _ _ _ _ (blocks_open_none g.T.Renderable.means g.B.Renderable.means) c.in-Partial.ensures.keeps)
-          c.render_partial.ensures.keeps) c.end_turn-in-Partial.ensures.store c.end_turn-in-Partial.ensures.borrows;
+          c.render_partial.ensures.keeps) c.end_partial.ensures.store c.end_partial.ensures.borrows;
       around = c.render_partial.ensures.around ∙ c.in-Partial.ensures.around;
     }
 

@@ -1,4 +1,4 @@
-use Rattle.std.proofs.Common.{Ok, rules, refl, ap, ◌∙◌, option_map, string_bytes}
+use Rattle.std.proofs.Common.{Ok, rules, refl, ap, ◌∙◌, option_map}
 use Rattle.liquid_plugins.specs.meaning.TurnOf.{turn_of}
 use Rattle.liquid_template.proofs.Goings.{
   asked_true,

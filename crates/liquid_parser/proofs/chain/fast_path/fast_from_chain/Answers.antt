@@ -14,7 +14,7 @@ returns-in-None-clause-value g c source s opens =
 pub returns-in-Some-expression_end-clause-value : goal.returns-in-Some-expression_end-clause-value
 returns-in-Some-expression_end-clause-value g c source s opens =
     subst (λ n. MakesNode (registry_of g.F.ParseFilter.makes c.args.language.now.filters) source s c.in-Some-expression_end.rest.now n)
-    (sym c.in_ok-name_node.ensures)
+    (sym c.in_ok-node.ensures)
     (name_makes (registry_of g.F.ParseFilter.makes c.args.language.now.filters) source s c.args.start.now c.in-Some.begun.1.now
     c.in-Some-expression_end.rest.now c.in-Name.name
     opens (rw c.in-Name.is at c.in-Some.ensures.found) c.in-Some-expression_end.ensures.closes)
@@ -24,7 +24,7 @@ returns-in-Whole-clause-value g c source s opens =
     let has = headed c.args.start.now c.in-Some.begun.1.now c.in-Some.begun.0 c.in-Some.ensures.found in
     let made = rw c.in-Whole.is at c.in_ok-chain.ensures.value source c.args.start.now has.middle has.end has.chain has.begun has.filters in
     subst (λ n. MakesNode (registry_of g.F.ParseFilter.makes c.args.language.now.filters) source s c.in-Whole.rest.now n)
-    (sym (chain_shape g.F.Filter.Meant.shape g.T.Node.Meant.shape g.B.Node.Meant.shape c.in-Whole.chain))
+    (sym (chain_shape g.F.Filter.Meant.shape g.T.Node.Meant.shape g.B.Node.Meant.shape c.left_of-in-Whole.result c.in-Whole.chain))
     (chain_makes (registry_of g.F.ParseFilter.makes c.args.language.now.filters) source s c.args.start.now c.in-Some.begun.1.now has.end
     c.in-Whole.rest.now c.in-Some.begun.0 (chain_of g.F.Filter.Meant.shape c.in-Whole.chain)
     has opens (made.0, made.1, refl) made.2)

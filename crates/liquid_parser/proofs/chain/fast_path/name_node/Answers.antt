@@ -6,12 +6,12 @@ use Rattle.liquid_parser.proofs.chain.fast_path.name_node.Goals as goal
 
 pub returns-then-name-gt-BRIEF_LIMIT : goal.returns-then-name-gt-BRIEF_LIMIT
 returns-then-name-gt-BRIEF_LIMIT g c =
-    chain_shape g.F.Filter.Meant.shape g.T.Node.Meant.shape g.B.Node.Meant.shape c.in_ok-of_name.field-0
+    chain_shape g.F.Filter.Meant.shape g.T.Node.Meant.shape g.B.Node.Meant.shape c.args.left c.in_ok-of_name.field-0
     ∙ ap (λ made. chain_node made) c.in_ok-of_name.ensures
 
 pub returns : goal.returns
 returns g c =
     let e : c.push_str.new.self.bytes ≡ c.args.name.now =
     c.push_str.ensures.bytes ∙ ap (λ bytes. bytes ++ c.args.name.now) c.new-brief.ensures in
-    name_shape g.F.Filter.Meant.shape g.T.Node.Meant.shape g.B.Node.Meant.shape c.push_str.new.self
+    name_shape g.F.Filter.Meant.shape g.T.Node.Meant.shape g.B.Node.Meant.shape c.args.left c.push_str.new.self
     ∙ ap (λ bytes. chain_node (name_chain bytes)) e

@@ -17,7 +17,7 @@ returns-in_err-expect_nothing g c source t h =
 pub returns-in_ok-push-in-Ok : goal.returns-in_ok-push-in-Ok
 returns-in_ok-push-in-Ok g c source t h =
     let held : c.len.result ≡ length c.push.new.self.items = grind (arith, c.push.new.self.ok.0, c.len.ensures) in
-    let made = block_shape g.F.Filter.Meant.shape g.T.Node.Meant.shape g.B.Node.Meant.shape c.in-Ok.made c.push.new.self
+    let made = block_shape g.F.Filter.Meant.shape g.T.Node.Meant.shape g.B.Node.Meant.shape c.left_of.result c.in-Ok.made c.push.new.self
     ∙ ap (block_with (g.B.Node.Meant.shape c.in-Ok.made)) (ap (map _) c.in_ok-push.ensures.items
     ∙ map_push _ c.args.block.parts.items c.args.nodes) in
     closed_ok source t (open_view g.F.Filter.Meant.shape g.T.Node.Meant.shape g.B.Node.Meant.shape g.B.Plan.Meant.shape g.B.ParseBlock.block

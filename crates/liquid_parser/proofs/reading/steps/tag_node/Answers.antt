@@ -6,7 +6,7 @@ use Rattle.liquid_parser.proofs.reading.steps.tag_node.Goals as goal
 pub returns-in-Ok : goal.returns-in-Ok
 returns-in-Ok g c source t h =
     placed_ok _ _ _ _ (c.in-Ok.ensures _ h.tokens_are) ∙ ap (λ n. Ok n)
-    (sym (tag_shape g.F.Filter.Meant.shape g.T.Node.Meant.shape g.B.Node.Meant.shape c.in-Ok.made))
+    (sym (tag_shape g.F.Filter.Meant.shape g.T.Node.Meant.shape g.B.Node.Meant.shape c.left_of.result c.in-Ok.made))
 
 pub returns-in-Err : goal.returns-in-Err
 returns-in-Err g c source t h =

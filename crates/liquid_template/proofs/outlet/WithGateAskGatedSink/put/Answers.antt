@@ -1,4 +1,4 @@
-use Rattle.std.proofs.Common.{◌<◌, length, arith, rules}
+use Rattle.std.proofs.Common.{◌<◌, length, rules}
 use Rattle.liquid_template.proofs.Outlets.{gated_put, gated_refused}
 use Rattle.liquid_template.proofs.outlet.WithGateAskGatedSink.put.Goals as goal
 

@@ -1,5 +1,0 @@
-use Rattle.bench.proofs.Leak.{leak_is_not}
-use Rattle.bench.proofs.laws.leak_is_not_discreet.Goals as goal
-
-pub returns : goal.returns
-returns g c = leak_is_not g.V.Fresh.fresh

@@ -1,7 +1,0 @@
-use Rattle.std.proofs.Common.{◌≡◌, Ok, Err, Some, map, string_bytes, sym, ap, ◌∙◌}
-use Rattle.liquid_template.specs.meaning.TemplateOf.{template_nodes}
-use Rattle.bench.proofs.PartialLemmas.{contains_one}
-use Rattle.bench.proofs.partial.OnePartialPartialStore.contains.Goals as goal
-
-pub returns : goal.returns
-returns g c = (rw c.as_str.ensures.value at c.eq.ensures) ∙ sym (contains_one _ _ c.args.name.now)

@@ -1,8 +1,0 @@
--- The tags with `leak` are not discreet.
-use Rattle.std.specs.Prelude.{ℕ}
-use Rattle.liquid_plugins.specs.meaning.Discreet.{Discreet}
-use Rattle.bench.specs.meaning.Tags.{leaky_tag_nodes}
-use Rattle.bench.specs.declared.tags.LeakyTagShape.{LeakyTagShape}
-
-abbrev pub LeakIsNotDiscreet : Type 0 → Type 0
-LeakIsNotDiscreet Reg = Discreet {N = LeakyTagShape} {P = ℕ} {Reg = Reg} leaky_tag_nodes → ⊥

@@ -1,0 +1,5 @@
+pub mod PartLemmas
+pub mod FarthestLemmas
+pub mod AlongLemmas
+pub mod RuleLemmas
+pub mod ValueLemmas

@@ -1,0 +1,11 @@
+pub mod Drips
+pub mod Filters
+pub mod ProgramLanguage
+pub mod Tags
+pub mod Blocks
+pub mod Hostile
+pub mod Asked
+pub mod TagPlugins
+pub mod BlockPlugins
+pub mod Languages
+pub mod Nested

@@ -1,5 +1,0 @@
-//! The tests of the renderer for C.
-#![tactic(auto)]
-
-#[cfg(test)]
-mod pages;

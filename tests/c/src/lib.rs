@@ -1,0 +1,3 @@
+//! The tests of the renderer for C.
+
+mod pages;

@@ -1,0 +1,46 @@
+//! Rows of the filters that put a list in order.
+use super::answers::Call;
+use liquid_error::Error;
+use liquid_value::{Value, ValueCow};
+use rows::{Line, rows_hold};
+use std::alloc::Global;
+use std::test::Fail;
+use std_order::order::{sort, sort_natural};
+
+/// A filter, its input, its arguments, and the source of what it returns.
+const ROWS: &str = r#"["sort", [3, null, 1], [], "[1, 3, , ]"]
+["sort", [{"k": 2, "n": 1}, {"n": 2}, {"k": 1, "n": 3}, {"k": 2, "n": 4}], ["k"], "[k1n3, k2n1, k2n4, n2, ]"]
+["sort", ["b", "a", "b", 3], [], "liquid: Values without an order\n  with:\n    first=\"b\"\n    second=3\n"]
+["sort", [{"a": 1}], [], "[a1, ]"]
+["sort_natural", ["b", "C", "a", null, "B"], [], "[a, b, B, C, , ]"]
+["sort_natural", [10, 9, "x"], [], "[10, 9, x, ]"]
+["sort_natural", [1, 2], ["a", "b"], "liquid: Unexpected arguments\n"]"#;
+
+/// Returns the result of a filter.
+fn answered(
+    alloc: Global,
+    filter: &str,
+    input: &Value,
+    arguments: &[ValueCow<'_>],
+) -> Result<Value, Error> {
+    match filter {
+        "sort" => sort(alloc, input, arguments),
+        _ => sort_natural(alloc, input, arguments),
+    }
+}
+
+/// Returns `true` if a filter returns what its row says.
+fn is_answered(alloc: Global, row: &Line) -> bool {
+    match Call::of(alloc, row) {
+        Some(call) => {
+            let answer = answered(alloc, call.filter, &call.input, call.arguments.as_slice());
+            call.returns(alloc, answer)
+        }
+        None => false,
+    }
+}
+
+#[test]
+fn lists_are_put_in_order(rt: HostRuntime) -> Result<(), Fail> {
+    rows_hold(rt.alloc(), ROWS, is_answered)
+}

@@ -1,0 +1,52 @@
+//! Pages of the standard language with a tag of a host's own.
+use crate::sources::is_whole;
+use crate::tag_rows::globals_of;
+use liquid_core::parser::{NoPlugin, PluginRegistry};
+use liquid_core::partials::InMemorySource;
+use liquid_core::{Error, TextSink, render_page_in};
+use rows::{Line, holds, rows_hold};
+use std::alloc::Global;
+use std::test::Fail;
+use std_beside::language_beside;
+use std_marks::Marks;
+use test_calls::Link;
+use text_tags::TextTagPlugin;
+
+/// Renders a text over these globals, in the standard language with the tag `link`.
+fn render(alloc: Global, text: &str, globals: &str, sink: &mut TextSink) -> Result<(), Error> {
+    let filters: PluginRegistry<NoPlugin> = PluginRegistry::new(alloc);
+    let tags = [TextTagPlugin { kind: Link }];
+    let blocks: [NoPlugin; 0] = [];
+    let language = language_beside(alloc, filters, &tags, &blocks)?;
+    let globals = globals_of(alloc, globals)?;
+    let partials = InMemorySource::new(alloc);
+    render_page_in::<Marks, _, _, _, _, _>(alloc, text, language, globals, partials, sink)
+}
+
+/// Returns `true` if this is what a text writes over these globals, and then its error, if there is one.
+fn writes(alloc: Global, text: &str, globals: &str, wanted: &str) -> bool {
+    let mut sink = TextSink::new(alloc);
+    let answer = render(alloc, text, globals, &mut sink);
+    is_whole(alloc, sink, answer, wanted)
+}
+
+/// Returns `true` if a row's text writes what the row says.
+fn row_holds(alloc: Global, row: &Line) -> bool {
+    match (row.text(0), row.text(1), row.text(2)) {
+        (Some(text), Some(globals), Some(wanted)) => writes(alloc, text, globals, wanted),
+        _ => false,
+    }
+}
+
+/// A text, its globals, and what it writes.
+static ROWS: &str = r#"["{% link '/a' %}{% link x, title: 'b' %}", "{\"x\": 1}", "</a|><1|b>"]
+["{% for i in (1..3) %}{% cycle 'a', 'b' %}{% link i %}{% endfor %}", "{}", "a<1|>b<2|>a<3|>"]
+["{% if x == 1 and true %}{% assign y = 2 %}{% link y %}{% endif %}{% decrement n %}", "{\"x\": 1}", "<2|>-1"]
+["{% capture t %}{% link 1 %}{% endcapture %}{% echo t %}", "{}", "<1|>"]
+["{% unless x %}{% link %}{% endunless %}", "{\"x\": false}", "liquid: Unexpected arguments\n"]"#;
+
+#[test]
+fn rows_of_an_own_tag(rt: HostRuntime) -> Result<(), Fail> {
+    rows_hold(rt.alloc(), ROWS, row_holds)?;
+    holds(ROWS.lines().count() == 5, "a table has all its rows")
+}

@@ -1,0 +1,11 @@
+//! The names of templates: paths, runtimes, and scopes over both forms.
+mod calls;
+mod depth;
+mod framed;
+mod frames;
+mod lenient;
+mod names;
+mod paths;
+mod popped;
+mod runtimes;
+mod values;
