@@ -8,8 +8,8 @@ use crate::history::History;
 
 /// Says whether rendering may continue.
 pub trait Watch {
-    // what an answer means: the watch before it, the watch after it, and the answer. `λ before after open. Unit` says
-    // nothing
+    // what an answer means: the watch before it, the watch after it, and the answer. `λ before after answer. Unit`
+    // says nothing
     ghost answers: { Self → Self → Bool → Type 0 };
 
     /// Called before each turn and before each piece. Once it returns `false`, rendering ends with "Rendering was

@@ -40,12 +40,14 @@ pub(crate) fn included<R: Runtime>(
 {
     let value = call.name.evaluate(alloc, runtime)?;
     let name = partial_name(alloc, value.as_view())?;
-    let names = bound(alloc, call.pairs.as_slice(), runtime)?;
+    let names = evaluate_pairs(alloc, call.pairs.as_slice(), runtime)?;
     Ok(inclusion_turn(alloc, inclusion, name, names)?)
 }
 
-/// Returns the name that a value gives to a partial.
-fn partial_name(alloc: Global, value: &Value) -> Result<String, Error>
+/// Returns the name that a value gives to a partial: the text of a scalar.
+///
+/// Any other value is an `Err`, "Partial name expected".
+pub fn partial_name(alloc: Global, value: &Value) -> Result<String, Error>
     ensures { Gives (λ s. string_bytes s) result (partial_name (tree_of value.now)) }
 {
     match value {
@@ -54,9 +56,12 @@ fn partial_name(alloc: Global, value: &Value) -> Result<String, Error>
     }
 }
 
-/// Returns the names of the pairs, with the values of their expressions.
+/// Returns the names of the pairs, with the values of their expressions, evaluated in order. Of two pairs with one name the
+/// later wins.
+///
+/// The first expression without a value is an `Err`.
 #[inline(always)]
-fn bound<R: Runtime>(
+pub fn evaluate_pairs<R: Runtime>(
     alloc: Global,
     pairs: &[(String, Expression)],
     runtime: &R,
@@ -81,7 +86,7 @@ fn inclusion_turn(
 ) -> Result<Turn, AllocError>
     ensures { IfOk result (λ turn. turn_of turn ≡ inclusion_turn inclusion (string_bytes name) (names_of names)) }
 {
-    let trace = trace(alloc, inclusion, name.as_str())?;
+    let trace = inclusion_trace(alloc, inclusion, name.as_str())?;
     let own = Some(name.clone()?);
     let frame = match inclusion {
         Inclusion::Include => Frame::Stack(names, own),
@@ -90,8 +95,12 @@ fn inclusion_turn(
     Ok(Turn::Partial(name, frame, Some(trace)))
 }
 
-/// Returns the trace of the tag for an error in the partial.
-fn trace(alloc: Global, inclusion: Inclusion, name: &str) -> Result<String, AllocError>
+/// Returns the trace of the tag for an error in the partial: the tag's name and the partial's.
+pub fn inclusion_trace(
+    alloc: Global,
+    inclusion: Inclusion,
+    name: &str,
+) -> Result<String, AllocError>
     ensures { IfOk result (λ s. string_bytes s ≡ word_of inclusion ++ (codes " " ++ name.now)) }
 {
     let front = match inclusion {
