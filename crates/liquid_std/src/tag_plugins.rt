@@ -1,19 +1,20 @@
 //! The tags, as plug-ins.
 ghost use Rattle.liquid_std.specs.meaning.TagPlugins.{tag_given, tag_name};
 
+use crate::calls::parse_call;
 use crate::cycle::parse_cycle;
 use crate::decrement::parse_decrement;
 use crate::echo::parse_echo;
 use crate::tags::StdTag;
 use liquid_core::parser::PluginRegistry;
 use liquid_core::{Error, ParseFilter, ParseTag, TagReflection, TagTokenIter};
-use liquid_tags::Tags;
+use liquid_tags::{Inclusion, Tags};
 use std::alloc::Global;
 
 /// The standard tags.
 #[derive(Debug, Clone, Copy, PartialEq, Eq, Drop)]
 pub enum StdTags {
-    /// A tag of `liquid_tags`.
+    /// A tag of `liquid_tags`. `include` and `render` may pass a value too.
     Library(Tags),
     Decrement,
     Echo,
@@ -54,6 +55,8 @@ impl<F: ParseFilter> ParseTag<F> for StdTags {
         filters: &PluginRegistry<F>,
     ) -> Result<StdTag<F::Filter>, Error> {
         match self {
+            StdTags::Library(Tags::Include) => parse_call(alloc, Inclusion::Include, tokens),
+            StdTags::Library(Tags::Render) => parse_call(alloc, Inclusion::Render, tokens),
             StdTags::Library(tag) => Ok(StdTag::Library(tag.parse(alloc, tokens, filters)?)),
             StdTags::Decrement => parse_decrement(alloc, tokens),
             StdTags::Echo => parse_echo(alloc, tokens, filters),
