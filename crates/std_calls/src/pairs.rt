@@ -1,19 +1,19 @@
 //! Reading pairs, and words before them.
-ghost use Rattle.std.specs.Prelude.{◌≡◌, ◌≤◌, IfOk};
+ghost use Rattle.std.specs.Prelude.{◌≡◌, ◌<◌, ◌≤◌, IfOk, IfSome};
 ghost use Rattle.liquid_error.specs.meaning.Told.{Gives};
 ghost use Rattle.liquid_parser.specs.meaning.Cursors.{IsToken, Takes, bytes_left};
 ghost use Rattle.liquid_parser.specs.meaning.Handed.{Token, Tokens};
 ghost use Rattle.liquid_parser.specs.meaning.Plugins.{AreTokens};
 ghost use Rattle.liquid_tags.specs.meaning.Partials.{pair_of};
 ghost use Rattle.std_calls.specs.meaning.CallsGiven.{after_word, begin_with_colon, pairs_from, pairs_of};
-ghost use Rattle.std_calls.specs.steps.Pairs.{AreLeft, pair_given};
+ghost use Rattle.std_calls.specs.steps.Pairs.{AreLeft, Finds, next_first, pair_given};
 
 use liquid_core::parser::TagToken;
 use liquid_core::{Error, Expression, TagTokenIter};
 use liquid_tags::asked::TOKEN_EXPECTED;
 use std::alloc::Global;
 
-/// Reads all tokens as pairs `name: value`. Commas before, between and after them are passed over.
+/// Reads all tokens as pairs `name: value`. Before each pair, and after the last, there may be a comma.
 ///
 /// A missing token is an `Err`, "Token expected". A token that does not fit is an `Err` too, "Unexpected token".
 pub fn read_pairs(
@@ -24,13 +24,24 @@ pub fn read_pairs(
 {
     let mut tokens = tokens;
     let mut pairs = Vec::new(alloc);
-    'pairs: while let Some(token) = tokens.next() {
-        if token.as_str() != "," {
-            let pair = read_pair(alloc, token, &mut tokens)?;
-            pairs.push(pair)?;
-        }
+    'pairs: while let Some(first) = next_first(&mut tokens) {
+        let pair = read_pair(alloc, first, &mut tokens)?;
+        pairs.push(pair)?;
     }
     Ok(pairs)
+}
+
+/// Removes the next token, or the one after it if that is a comma, and returns it.
+fn next_first<'a>(tokens: &mut TagTokenIter<'a>) -> Option<TagToken<'a>>
+    ensures value { (ts : Tokens) → AreTokens tokens.old ts → Finds result tokens.new (next_first ts) }
+    ensures shorter { IfSome result (λ t. bytes_left tokens.new < bytes_left tokens.old) }
+{
+    let token = tokens.next()?;
+    if token.as_str() == "," {
+        tokens.next()
+    } else {
+        Some(token)
+    }
 }
 
 /// Reads the pair whose first token this is.

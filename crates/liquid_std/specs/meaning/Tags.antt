@@ -51,6 +51,9 @@ abbrev pub tag_count : StdTagProgressShape → ℕ
 tag_count (Turns turns) = turns
 tag_count (Rounds r) = length r.items
 
+abbrev pub in_turns : {Reg : Type 0} → Answered TurnShape ℕ Reg → Answered TurnShape StdTagProgressShape Reg
+in_turns t = record { answer = t.answer; progress = Turns t.progress; written = t.written }
+
 abbrev pub in_rounds : {Reg : Type 0} → Answered TurnShape CallRoundsShape Reg → Answered TurnShape StdTagProgressShape Reg
 in_rounds t = record { answer = t.answer; progress = Rounds t.progress; written = t.written }
 
@@ -61,7 +64,7 @@ echo_turn value = ok_then value (λ t. Ok (text_turn (render t)))
 -- what a tag's turn answers
 abbrev pub tag_takes : {F Reg : Type 0} → MarksIn Reg → FilterMeaning F → StdTagShape F → StdTagProgressShape → View Reg
     → Answered TurnShape StdTagProgressShape Reg
-tag_takes held m (Library n) (Turns turns) v = library_turn (library.tag_takes m n (Turns turns) v)
+tag_takes held m (Library n) (Turns turns) v = in_turns (library_turn (library.tag_takes m n turns v))
 tag_takes held m (Library n) (Rounds r) v = answers (Ok end_turn) (Rounds r) v
 tag_takes held m (Calls c) (Turns turns) v = answers (Ok end_turn) (Turns turns) v
 tag_takes held m (Calls c) (Rounds r) v = in_rounds (call_takes r v)

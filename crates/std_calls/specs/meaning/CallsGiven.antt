@@ -28,12 +28,20 @@ is_comma t = bytes_eq t.text (codes ",")
 abbrev pub missing : {A : Type 0} → Place → Result A Refusal
 missing place = Err (located token_expected place)
 
--- the pairs that tokens make: a name, a colon and a value for each. Commas before, between and after them are passed over
+-- the pairs that tokens make: a name, a colon and a value for each. Before each pair, and after the last, there may be a
+-- comma
 abbrev mutual
   pub pairs_from : List Token → Result (List Pair) Refusal
   pairs_from [] = Ok []
-  pairs_from (t ∷ ts) =
-      cond (is_comma t) (pairs_from ts) (ok_then (or_unexpected t (expect_identifier t)) (λ name. from_colon name t.following ts))
+  pairs_from (t ∷ ts) = cond (is_comma t) (after_comma ts) (pair_from t ts)
+
+  pub after_comma : List Token → Result (List Pair) Refusal
+  after_comma [] = Ok []
+  after_comma (t ∷ ts) = pair_from t ts
+
+  -- a pair whose first token this is, and more
+  pub pair_from : Token → List Token → Result (List Pair) Refusal
+  pair_from t ts = ok_then (or_unexpected t (expect_identifier t)) (λ name. from_colon name t.following ts)
 
   pub from_colon : List ℕ → Place → List Token → Result (List Pair) Refusal
   from_colon name place [] = missing place

@@ -54,19 +54,23 @@ abbrev pub given_in : {Reg : Type 0} → View Reg → List Pair → Result (List
 given_in v [] = Ok []
 given_in v (p ∷ ps) = ok_then (evaluate v p.1) (λ t. ok_then (given_in v ps) (λ given. Ok ((p.0, t) ∷ given)))
 
+-- the rounds of a call, before the first
+abbrev pub begun : PartialCallShape → List ℕ → List Tree × Bool → List Given → CallRoundsShape
+begun c name passed given = record {
+  inclusion = c.inclusion;
+  name = name;
+  key = key_of c.alias name;
+  given = given;
+  items = passed.0;
+  is_loop = passed.1;
+  place = 0;
+}
+
 -- a call's start: the name of the partial is evaluated, then what is passed, and then the pairs
 abbrev pub call_rounds : {Reg : Type 0} → View Reg → PartialCallShape → Result CallRoundsShape Refusal
 call_rounds v c =
     ok_then (evaluate v c.name) (λ t. ok_then (partial_name t) (λ name. ok_then (passes v c.manner c.series) (λ passed.
-    ok_then (given_in v c.pairs) (λ given. Ok (record {
-      inclusion = c.inclusion;
-      name = name;
-      key = key_of c.alias name;
-      given = given;
-      items = passed.0;
-      is_loop = passed.1;
-      place = 0;
-    })))))
+    ok_then (given_in v c.pairs) (λ given. Ok (begun c name passed given)))))
 
 -- names, and the pairs that are given over them
 abbrev pub with_given : Names → List Given → Names
