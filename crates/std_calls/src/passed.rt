@@ -67,13 +67,19 @@ pub fn passes<R: Runtime>(
         Series::Of(value) => {
             let value = value.evaluate(alloc, runtime)?;
             if is_listed(manner, value.as_view()) {
-                Ok((Passed::Each(items_of(alloc, series, runtime)?), is_loop(manner)))
+                Ok((
+                    Passed::Each(items_of(alloc, series, runtime)?),
+                    is_loop(manner),
+                ))
             } else {
                 Ok((Passed::One(value.into_owned()?), false))
             }
         }
         Series::Between(_, _) => {
-            Ok((Passed::Each(items_of(alloc, series, runtime)?), is_loop(manner)))
+            Ok((
+                Passed::Each(items_of(alloc, series, runtime)?),
+                is_loop(manner),
+            ))
         }
     }
 }

@@ -103,11 +103,7 @@ fn read_for(
 }
 
 /// Reads a call without a value, after the name of its partial.
-fn read_alone(
-    alloc: Global,
-    name: Expression,
-    tokens: TagTokenIter<'_>,
-) -> Result<ReadCall, Error>
+fn read_alone(alloc: Global, name: Expression, tokens: TagTokenIter<'_>) -> Result<ReadCall, Error>
     ensures { (ts : Tokens) → AreTokens tokens.entry ts → Gives read_of result (alone_given (expression_of name) ts) }
 {
     let pairs = read_pairs(alloc, tokens)?;
@@ -137,11 +133,7 @@ fn read_value(
 }
 
 /// Reads a `render` that goes over a value or a range, from that on.
-fn read_series(
-    alloc: Global,
-    name: Expression,
-    tokens: TagTokenIter<'_>,
-) -> Result<ReadCall, Error>
+fn read_series(alloc: Global, name: Expression, tokens: TagTokenIter<'_>) -> Result<ReadCall, Error>
     ensures { (ts : Tokens) → AreTokens tokens.entry ts → Gives read_of result (series_passed (expression_of name) ts) }
 {
     let mut tokens = tokens;

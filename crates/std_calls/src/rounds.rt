@@ -187,17 +187,18 @@ fn names_at(alloc: Global, rounds: &CallRounds, item: Value) -> Result<Object, A
 {
     let mut names = loop_names(alloc, rounds.is_loop, rounds.place, rounds.items.len())?;
     bind_given(alloc, &mut names, rounds.given.as_slice())?;
-    bind_item(alloc, rounds.inclusion, rounds.key.as_str(), item, &mut names)?;
+    bind_item(
+        alloc,
+        rounds.inclusion,
+        rounds.key.as_str(),
+        item,
+        &mut names,
+    )?;
     Ok(names)
 }
 
 /// Returns `forloop` in a loop, and otherwise no names.
-fn loop_names(
-    alloc: Global,
-    is_loop: bool,
-    place: u64,
-    size: u64,
-) -> Result<Object, AllocError>
+fn loop_names(alloc: Global, is_loop: bool, place: u64, size: u64) -> Result<Object, AllocError>
     ensures { IfOk result (λ names. names_of names ≡ loop_names is_loop place size) }
 {
     let mut names = no_names(alloc);
