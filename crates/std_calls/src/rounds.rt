@@ -9,7 +9,7 @@ ghost use Rattle.liquid_plugins.specs.meaning.TurnOf.{turn_of};
 ghost use Rattle.liquid_tags.specs.meaning.Partials.{pair_of};
 ghost use Rattle.std_calls.specs.meaning.Calls.{call_of};
 ghost use Rattle.std_calls.specs.meaning.Rounds.{call_rounds, following, frame_for, given_in, given_of, key_in, key_of, loop_names};
-ghost use Rattle.std_calls.specs.meaning.Rounds.{names_at, partial_for, rounds_of, turn_at, with_given, with_item};
+ghost use Rattle.std_calls.specs.meaning.Rounds.{has_name, names_at, partial_for, rounds_of, turn_at, with_given, with_item};
 
 use crate::calls::PartialCall;
 use crate::passed::{Passed, passes};
@@ -142,20 +142,23 @@ pub fn call_turn(alloc: Global, rounds: &mut CallRounds) -> Result<Turn, AllocEr
     let Some(next) = rounds.place.checked_add(1) else {
         return Err(AllocError);
     };
-    let turn = match rounds.items.get(rounds.place)? {
-        Some(item) => partial_turn(alloc, &*rounds, item)?,
-        None => Turn::End,
-    };
+    let item = rounds.items.get(rounds.place)?;
+    let turn = turn_at(alloc, &*rounds, item)?;
     rounds.place = next;
     Ok(turn)
 }
 
-/// Returns the turn with the partial for an item.
-fn partial_turn(alloc: Global, rounds: &CallRounds, item: Value) -> Result<Turn, AllocError>
-    ensures { IfOk result (λ turn. turn_of turn ≡ turn_at (rounds_of rounds.now) (Some (tree_of item))) }
+/// Returns the turn with the partial for an item, or the end if there is none.
+fn turn_at(alloc: Global, rounds: &CallRounds, item: Option<Value>) -> Result<Turn, AllocError>
+    ensures { IfOk result (λ turn. turn_of turn ≡ turn_at (rounds_of rounds.now) (option_map tree_of item)) }
 {
-    let names = names_at(alloc, rounds, item)?;
-    partial_for(alloc, rounds.inclusion, &rounds.name, names)
+    match item {
+        Some(item) => {
+            let names = names_at(alloc, rounds, item)?;
+            partial_for(alloc, rounds.inclusion, &rounds.name, names)
+        }
+        None => Ok(Turn::End),
+    }
 }
 
 /// Returns the turn with the partial of a name, which is given these names.
@@ -233,8 +236,19 @@ fn bind_item(
 ) -> Result<(), AllocError>
     ensures { OnOk result (names_of names.new ≡ with_item inclusion key.now (tree_of item) (names_of names.old)) }
 {
+    if has_name(inclusion, &item) {
+        bind(alloc, names, key, item)
+    } else {
+        Ok(())
+    }
+}
+
+/// Returns `false` for nil that is passed by a `render`.
+fn has_name(inclusion: Inclusion, item: &Value) -> bool
+    ensures { result ≡ has_name inclusion (tree_of item.now) }
+{
     match (inclusion, item) {
-        (Inclusion::Render, Value::Nil) => Ok(()),
-        (_, item) => bind(alloc, names, key, item),
+        (Inclusion::Render, Value::Nil) => false,
+        _ => true,
     }
 }

@@ -1,5 +1,5 @@
 -- The rounds of a call: one for each item that it passes.
-use Rattle.std.specs.Prelude.{ℕ, ◌+◌, List, [], ◌∷◌, ◌++◌, codes, Bool, cond, length, map, slice_get, string_bytes, String, unwrap_or}
+use Rattle.std.specs.Prelude.{ℕ, ◌+◌, List, [], ◌∷◌, ◌++◌, codes, Bool, true, false, cond, length, map, slice_get, string_bytes, String, unwrap_or}
 use Rattle.std.specs.Prelude.{Option, None, Some, Result, Ok}
 use Rattle.std.specs.FinMap.{empty, insert}
 use Rattle.std.specs.Path.{path_file_name}
@@ -82,10 +82,12 @@ abbrev pub loop_names : Bool → ℕ → ℕ → Names
 loop_names is_loop place size = cond is_loop (insert empty (codes "forloop") (forloop place size)) empty
 
 -- names, and over them what is passed; nil gives a partial of `render` no name
+abbrev pub has_name : Inclusion → Tree → Bool
+has_name Render nil = false
+has_name i t = true
+
 abbrev pub with_item : Inclusion → List ℕ → Tree → Names → Names
-with_item Include key t names = insert names key t
-with_item Render key nil names = names
-with_item Render key t names = insert names key t
+with_item i key t names = cond (has_name i t) (insert names key t) names
 
 abbrev pub names_at : CallRoundsShape → Tree → Names
 names_at r t = with_item r.inclusion r.key t (with_given (loop_names r.is_loop r.place (length r.items)) r.given)
