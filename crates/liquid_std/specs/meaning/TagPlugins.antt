@@ -1,5 +1,5 @@
 -- What the tags make of their tokens.
-use Rattle.std.specs.Prelude.{ℕ, List, codes, Result, Ok}
+use Rattle.std.specs.Prelude.{ℕ, List, codes, Option, None, Some, Result, Ok}
 use Rattle.liquid_error.specs.meaning.Refusal.{Refusal, ok_then}
 use Rattle.liquid_parser.specs.meaning.Cursors.{expect_filter_chain}
 use Rattle.liquid_parser.specs.meaning.Handed.{Tokens, expect_identifier}
@@ -38,11 +38,19 @@ call_node i (passing c) = Calls c
 abbrev pub call_node_given : {F : Type 0} → Inclusion → Tokens → Result (StdTagShape F) Refusal
 call_node_given i ts = ok_then (call_given i ts) (λ c. Ok (call_node i c))
 
+-- how a tag of `liquid_tags` calls a partial, if it does
+abbrev pub inclusion_of : Tags → Option Inclusion
+inclusion_of named.Include = Some inclusion.Include
+inclusion_of named.Render = Some inclusion.Render
+inclusion_of t = None
+
 -- what the tokens of a tag of `liquid_tags` make
+abbrev pub library_by : {F : Type 0} → Tags → Filters F → Tokens → Option Inclusion → Result (StdTagShape F) Refusal
+library_by t filters ts None = ok_then (library.tag_given t filters ts) (λ n. Ok (Library n))
+library_by t filters ts (Some i) = call_node_given i ts
+
 abbrev pub library_given : {F : Type 0} → Tags → Filters F → Tokens → Result (StdTagShape F) Refusal
-library_given named.Include filters ts = call_node_given inclusion.Include ts
-library_given named.Render filters ts = call_node_given inclusion.Render ts
-library_given t filters ts = ok_then (library.tag_given t filters ts) (λ n. Ok (Library n))
+library_given t filters ts = library_by t filters ts (inclusion_of t)
 
 -- what a tag's tokens make
 abbrev pub tag_given : {F : Type 0} → StdTags → Filters F → Tokens → Result (StdTagShape F) Refusal
