@@ -1,25 +1,5 @@
 -- The loops that tokens make.
-use Rattle.std.specs.Prelude.{
-  ℕ,
-  List,
-  [],
-  ◌∷◌,
-  codes,
-  Bool,
-  true,
-  false,
-  not,
-  cond,
-  ◌&&◌,
-  bytes_eq,
-  is_none,
-  Option,
-  None,
-  Some,
-  Result,
-  Ok,
-  Err,
-}
+use Rattle.std.specs.Prelude.{ℕ, List, [], ◌∷◌, codes, true, false, not, cond, ◌&&◌, bytes_eq, is_none, Option, None, Some, Result, Ok, Err}
 use Rattle.liquid_error.specs.declared.place.Place.{Place}
 use Rattle.liquid_error.specs.meaning.Refusal.{Refusal, located, ok_then}
 use Rattle.liquid_parser.specs.meaning.Cursors.{expect_str}

@@ -10,6 +10,19 @@ pub options-preserved : goal.options-preserved
 options-preserved c ts at =
     let so_far = c.options.invariant ts at in
     let given = c.in-Some.ensures.value so_far.0 so_far.1 in
+    let fails =
+    ap (option_named c.args.block (options_of c.options.options)) (sym (c.as_str.ensures given.0.0 given.2.token_is))
+    ∙ sym c.in-None.ensures in (
+      given.0.1,
+      given.2.left,
+      comma_passed c.args.block (options_of c.options.options) so_far.0.left given.0 _ _ so_far.2 given.1 fails
+          (c.in_ok-expect_comma-in-None.ensures given.0.0 given.2.token_is),
+    )
+
+pub options-preserved-in-Continue-1 : goal.options-preserved-in-Continue-1
+options-preserved-in-Continue-1 c ts at =
+    let so_far = c.options.invariant ts at in
+    let given = c.in-Some.ensures.value so_far.0 so_far.1 in
     let fits =
     ap (option_named c.args.block (options_of c.options.options)) (sym (c.as_str.ensures given.0.0 given.2.token_is))
     ∙ sym c.in-Some-option_named.ensures in
