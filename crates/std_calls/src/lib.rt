@@ -8,5 +8,5 @@ pub mod read_call;
 pub mod rounds;
 
 pub use calls::{Manner, PartialCall};
-pub use read_call::{ReadCall, read_call};
+pub use read_call::ReadCall;
 pub use rounds::{CallRounds, call_rounds, call_turn};

@@ -4,7 +4,7 @@ ghost use Rattle.liquid_error.specs.meaning.Told.{Gives};
 ghost use Rattle.liquid_parser.specs.meaning.Handed.{Tokens};
 ghost use Rattle.liquid_parser.specs.meaning.Plugins.{AreTokens};
 ghost use Rattle.liquid_plugins.specs.meaning.ExpressionOf.{expression_of};
-ghost use Rattle.std_calls.specs.meaning.CallsGiven.{after_front, after_name, alone_given, call_given, for_given, series_passed};
+ghost use Rattle.std_calls.specs.meaning.CallsGiven.{after_front, after_name, alias_given, alone_given, call_given, for_given, series_passed};
 ghost use Rattle.std_calls.specs.meaning.CallsGiven.{value_passed, with_given, with_pairs};
 ghost use Rattle.std_calls.specs.meaning.Calls.{read_of};
 ghost use Rattle.std_calls.specs.steps.Reading.{front_of};
@@ -152,14 +152,19 @@ fn read_rest(alloc: Global, front: Front, tokens: TagTokenIter<'_>) -> Result<Re
     ensures { (ts : Tokens) → AreTokens tokens.entry ts → Gives read_of result (after_front (front_of front) ts) }
 {
     match after_word(tokens, "as") {
-        Some(rest) => {
-            let mut rest = rest;
-            let alias = rest.next_identifier(alloc, TOKEN_EXPECTED)?;
-            let alias = String::from_str(alloc, alias)?;
-            read_with_pairs(alloc, front, Some(alias), rest)
-        }
+        Some(rest) => read_alias(alloc, front, rest),
         None => read_with_pairs(alloc, front, None, tokens),
     }
+}
+
+/// Reads what comes after `as`: a name, and pairs.
+fn read_alias(alloc: Global, front: Front, tokens: TagTokenIter<'_>) -> Result<ReadCall, Error>
+    ensures { (ts : Tokens) → AreTokens tokens.entry ts → Gives read_of result (alias_given (front_of front) ts) }
+{
+    let mut tokens = tokens;
+    let alias = tokens.next_identifier(alloc, TOKEN_EXPECTED)?;
+    let alias = String::from_str(alloc, alias)?;
+    read_with_pairs(alloc, front, Some(alias), tokens)
 }
 
 /// Reads the pairs of a call that passes a value.

@@ -33,15 +33,12 @@ missing place = Err (located token_expected place)
 abbrev mutual
   pub pairs_from : List Token → Result (List Pair) Refusal
   pairs_from [] = Ok []
-  pairs_from (t ∷ ts) = cond (is_comma t) (after_comma ts) (pair_from t ts)
+  pairs_from (t ∷ ts) =
+      cond (is_comma t) (after_comma ts) (ok_then (or_unexpected t (expect_identifier t)) (λ name. from_colon name t.following ts))
 
   pub after_comma : List Token → Result (List Pair) Refusal
   after_comma [] = Ok []
-  after_comma (t ∷ ts) = pair_from t ts
-
-  -- a pair whose first token this is, and more
-  pub pair_from : Token → List Token → Result (List Pair) Refusal
-  pair_from t ts = ok_then (or_unexpected t (expect_identifier t)) (λ name. from_colon name t.following ts)
+  after_comma (t ∷ ts) = ok_then (or_unexpected t (expect_identifier t)) (λ name. from_colon name t.following ts)
 
   pub from_colon : List ℕ → Place → List Token → Result (List Pair) Refusal
   from_colon name place [] = missing place
@@ -51,6 +48,10 @@ abbrev mutual
   from_value name place [] = missing place
   from_value name place (t ∷ ts) =
       ok_then (or_unexpected t (expect_value t)) (λ e. ok_then (pairs_from ts) (λ pairs. Ok ((name, e) ∷ pairs)))
+
+-- a pair whose first token this is, and more
+abbrev pub pair_from : Token → List Token → Result (List Pair) Refusal
+pair_from t ts = ok_then (or_unexpected t (expect_identifier t)) (λ name. from_colon name t.following ts)
 
 -- the tokens after a word, if the word comes next. With a colon after it the word is the name of a pair
 abbrev pub begin_with_colon : List Token → Bool
@@ -86,10 +87,14 @@ with_pairs f alias ts =
       pairs = pairs;
     })))
 
+-- after `as`: a name, and pairs
+abbrev pub alias_given : Front → Tokens → Result CallRead Refusal
+alias_given f ts = ok_then (next_as expect_identifier ts) (λ alias. with_pairs f (Some alias.0) alias.1)
+
 -- `as` and a name, if they come next, and pairs
 abbrev pub by_alias : Front → Tokens → Option Tokens → Result CallRead Refusal
 by_alias f ts None = with_pairs f None ts
-by_alias f ts (Some after) = ok_then (next_as expect_identifier after) (λ alias. with_pairs f (Some alias.0) alias.1)
+by_alias f ts (Some after) = alias_given f after
 
 abbrev pub after_front : Front → Tokens → Result CallRead Refusal
 after_front f ts = by_alias f ts (after_word (codes "as") ts)

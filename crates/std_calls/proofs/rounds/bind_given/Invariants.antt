@@ -5,4 +5,4 @@ use Rattle.std_calls.proofs.rounds.bind_given.Given as goal
 
 abbrev pub invariant-loop-pair : goal.invariant-loop-pair
 invariant-loop-pair l =
-    with_given (names_of l.fn.names.old) (map given_of l.given) ≡ with_given (names_of l.names.now) (map given_of (drop l.pair-index l.given))
+    with_given (names_of l.fn.names) (map given_of l.given) ≡ with_given (names_of l.names) (map given_of (drop l.pair-index l.given))
