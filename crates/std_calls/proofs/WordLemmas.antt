@@ -1,5 +1,5 @@
 -- The word that comes next, and the tokens after it.
-use Rattle.std.proofs.Common.{◌≡◌, ℕ, List, [], ◌∷◌, codes, Bool, true, false, cond, Option, None, Some, sym, ap, ◌∙◌, refl}
+use Rattle.std.proofs.Common.{◌≡◌, ℕ, List, [], ◌∷◌, codes, Bool, false, cond, Option, None, Some, sym, ap, ◌∙◌, refl}
 use Rattle.std.specs.Prelude.{bytes_eq, not, ◌&&◌, option_and_then}
 use Rattle.liquid_parser.specs.meaning.Handed.{Token, Tokens, first_of, next}
 use Rattle.std_calls.specs.meaning.CallsGiven.{after_word, begin_with_colon, if_word}

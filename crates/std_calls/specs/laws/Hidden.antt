@@ -1,9 +1,8 @@
 -- What calls pass, and their turns, do not depend on hidden globals.
-use Rattle.std.proofs.Common.{◌≡◌, List, [], ◌∷◌, Bool, Option, Result, Ok, Err, refl, ap, ◌∙◌}
+use Rattle.std.proofs.Common.{◌≡◌, List, [], ◌∷◌, Result, Ok, Err, refl, ap, ◌∙◌}
 use Rattle.std.specs.Prelude.{slice_get}
 use Rattle.std.specs.FinMap.{empty}
 use Rattle.liquid_error.specs.meaning.Refusal.{Refusal, ok_then}
-use Rattle.liquid_value.specs.meaning.Tree.{Tree}
 use Rattle.liquid_runtime.specs.meaning.Maps.{Names}
 use Rattle.liquid_runtime.specs.meaning.View.{View}
 use Rattle.liquid_plugins.specs.meaning.Discreet.{hiding, overlaid}
@@ -17,7 +16,7 @@ use Rattle.std_calls.specs.declared.calls.Manner.{Manner}
 use Rattle.std_calls.specs.declared.calls.PartialCallShape.{PartialCallShape}
 use Rattle.std_calls.specs.declared.rounds.CallRoundsShape.{CallRoundsShape}
 use Rattle.std_calls.specs.meaning.Passed.{is_loop, passes, value_items}
-use Rattle.std_calls.specs.meaning.Rounds.{Given, begun, call_rounds, call_takes, following, given_in, turn_at}
+use Rattle.std_calls.specs.meaning.Rounds.{begun, call_rounds, call_takes, following, given_in, turn_at}
 
 then_same : {A B : Type 0} (r : Result A Refusal) (f g : A → Result B Refusal) → ((x : A) → f x ≡ g x) → ok_then r f ≡ ok_then r g
 then_same (Ok x) f g e = e x

@@ -1,5 +1,5 @@
 -- The calls of partials that tokens make: with a value or without.
-use Rattle.std.specs.Prelude.{ℕ, List, [], ◌∷◌, codes, Bool, true, false, not, ◌&&◌, bytes_eq, cond, map, string_bytes, Vec, String}
+use Rattle.std.specs.Prelude.{ℕ, List, [], ◌∷◌, codes, Bool, false, not, ◌&&◌, bytes_eq, cond, map, Vec, String}
 use Rattle.std.specs.Prelude.{Option, None, Some, option_and_then, Result, Ok, Err}
 use Rattle.std.specs.declared.alloc.Global.{Global}
 use Rattle.liquid_error.specs.declared.place.Place.{Place}

@@ -1,5 +1,5 @@
 -- One pair after another, and the word that comes next.
-use Rattle.std.specs.Prelude.{◌≡◌, List, Bool, cond, Option, None, Some, option_and_then, Result, Ok}
+use Rattle.std.specs.Prelude.{◌≡◌, Bool, cond, Option, None, Some, option_and_then, Result, Ok}
 use Rattle.liquid_error.specs.meaning.Refusal.{Refusal, ok_then}
 use Rattle.liquid_parser.specs.declared.cursor.token.TagToken.{TagToken}
 use Rattle.liquid_parser.specs.declared.cursor.tokens.TagTokenIter.{TagTokenIter}

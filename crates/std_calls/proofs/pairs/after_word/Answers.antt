@@ -1,4 +1,4 @@
-use Rattle.std.proofs.Common.{◌≡◌, Bool, true, false, sym, refl, ◌∙◌, rules}
+use Rattle.std.proofs.Common.{◌≡◌, true, false, sym, refl, ◌∙◌, rules}
 use Rattle.std_calls.specs.meaning.CallsGiven.{begin_with_colon}
 use Rattle.std_calls.proofs.WordLemmas.{word_next}
 use Rattle.std_calls.proofs.pairs.after_word.Goals.{else-eq-via-then-eq+else-not-begin_with_colon, else-eq-via-else-eq}

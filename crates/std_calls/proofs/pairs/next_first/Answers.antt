@@ -1,6 +1,6 @@
 use Rattle.std.proofs.Common.{true, false, sym, subst, ◌∙◌}
 use Rattle.std_calls.specs.steps.Pairs.{Finds}
-use Rattle.std_calls.proofs.PairLemmas.{finds, first_found, none_found}
+use Rattle.std_calls.proofs.PairLemmas.{finds, first_found}
 use Rattle.std_calls.proofs.pairs.next_first.Goals as goal
 
 pub returns-then-eq-clause-value : goal.returns-then-eq-clause-value
