@@ -1,7 +1,6 @@
 -- The block `capture`.
 use Rattle.std.specs.Prelude.{ℕ, List, string_bytes, option_map, Option, None, Some, String, Ok}
 use Rattle.std.specs.declared.alloc.Global.{Global}
-use Rattle.liquid_error.specs.meaning.Refusal.{ok_then}
 use Rattle.liquid_scalar.specs.meaning.Scalar.{text}
 use Rattle.liquid_value.specs.meaning.Tree.{Tree, scalar}
 use Rattle.liquid_runtime.specs.meaning.Frames.{no_frame}

@@ -1,5 +1,5 @@
 -- What `cycle` makes of its tokens.
-use Rattle.std.specs.Prelude.{ℕ, List, [], ◌∷◌, codes, bytes_eq, cond, Option, None, Some, option_and_then, Result, Ok}
+use Rattle.std.specs.Prelude.{List, [], ◌∷◌, codes, bytes_eq, cond, Option, None, Some, option_and_then, Result, Ok}
 use Rattle.liquid_error.specs.meaning.Refusal.{Refusal, ok_then}
 use Rattle.liquid_plugins.specs.meaning.Expression.{ExpressionShape}
 use Rattle.liquid_parser.specs.meaning.Handed.{Token, Tokens, expect_value, next, or_unexpected}
