@@ -4,7 +4,7 @@
 use liquid_core::Error;
 use liquid_program::fault::Fault;
 use liquid_program::help;
-use liquid_program::machine::Machine;
+use liquid_files::Machine;
 use liquid_program::run::run;
 use std::io::{BufWriter, IsTerminal};
 use std::process::ExitCode;

@@ -3,7 +3,7 @@ ghost use Rattle.std.specs.Prelude.{◌≡◌};
 
 use crate::command::Paths;
 use crate::fault::Fault;
-use crate::folder::{Folder, Why};
+use liquid_files::{Folder, Why};
 use std::alloc::Global;
 use std::io::Write;
 

@@ -22,7 +22,7 @@ ghost use Rattle.liquid_program.specs.meaning.Written.{Placed, Prints, WritesOth
 use crate::command::{Choices, Command, Options, Paths};
 use crate::explain::explain;
 use crate::fault::Fault;
-use crate::folder::Folder;
+use liquid_files::Folder;
 use crate::gather::{globals_of, partials_of, text_of};
 use crate::notes::{Sources, refuse};
 use crate::pages::write_pages;

@@ -14,7 +14,7 @@ ghost use Rattle.liquid_program.specs.meaning.Written.{
 
 use crate::command::{Command, Paths};
 use crate::fault::Fault;
-use crate::folder::{Folder, Unread};
+use liquid_files::{Folder, Unread};
 use crate::pages_command::name_of;
 use crate::run::print;
 use liquid_core::Error;

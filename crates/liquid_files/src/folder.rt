@@ -1,6 +1,6 @@
 //! Where the program's files come from.
 ghost use Rattle.std.specs.Prelude.{◌≡◌, ℕ, Bool, true, false, List, [], ◌∷◌, Option, None, OnOk, OnErr, map, string_bytes};
-ghost use Rattle.liquid_program.specs.meaning.Files.{Reads, Replaces, Request, Requests, Same, also, listing, reading};
+ghost use Rattle.liquid_files.specs.meaning.Files.{Reads, Replaces, Request, Requests, Same, also, listing, reading};
 
 use std::alloc::Global;
 

@@ -1,8 +1,8 @@
 use Rattle.std.proofs.Common.{◌≡◌, Some, true, map, string_bytes, ◌∙◌, if◌then◌else◌, ap}
 use Rattle.std.specs.Str.{bytes_eq}
-use Rattle.liquid_program.specs.meaning.InMemory.{names_at}
-use Rattle.liquid_program.proofs.FilesInMemory.{names_at-insert}
-use Rattle.liquid_program.proofs.in_memory.InMemoryFolder.add_tree.Goals as goal
+use Rattle.liquid_files.specs.meaning.InMemory.{names_at}
+use Rattle.liquid_files.proofs.FilesInMemory.{names_at-insert}
+use Rattle.liquid_files.proofs.in_memory.InMemoryFolder.add_tree.Goals as goal
 
 pub returns-clause-added : goal.returns-clause-added
 returns-clause-added c = λ p.

@@ -1,5 +1,5 @@
 use Rattle.std.proofs.Common.{ℕ, Bool, List, Option, Some, ap}
-use Rattle.liquid_program.proofs.in_memory.InMemoryFolderFolder.replace.Goals as goal
+use Rattle.liquid_files.proofs.in_memory.InMemoryFolderFolder.replace.Goals as goal
 
 pub returns-clause-listed : goal.returns-clause-listed
 returns-clause-listed c =

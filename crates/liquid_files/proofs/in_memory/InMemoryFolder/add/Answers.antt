@@ -1,8 +1,8 @@
 use Rattle.std.proofs.Common.{rules, ◌≡◌, Some, string_bytes, ◌∙◌, if◌then◌else◌, ap}
 use Rattle.std.specs.Str.{bytes_eq}
-use Rattle.liquid_program.specs.meaning.InMemory.{bytes_at}
-use Rattle.liquid_program.proofs.FilesInMemory.{bytes_at-insert}
-use Rattle.liquid_program.proofs.in_memory.InMemoryFolder.add.Goals as goal
+use Rattle.liquid_files.specs.meaning.InMemory.{bytes_at}
+use Rattle.liquid_files.proofs.FilesInMemory.{bytes_at-insert}
+use Rattle.liquid_files.proofs.in_memory.InMemoryFolder.add.Goals as goal
 
 pub returns-clause-added : goal.returns-clause-added
 returns-clause-added c = λ p.

@@ -7,7 +7,7 @@ use Rattle.std.specs.Str.{bytes_eq}
 use Rattle.std.specs.String.{string_cmp}
 use Rattle.std.proofs.lemmas.Map.Text.{btree_map_updates_text}
 use Rattle.std.specs.declared.alloc.Global.{Global}
-use Rattle.liquid_program.specs.meaning.Files.{Replaces, Same}
+use Rattle.liquid_files.specs.meaning.Files.{Replaces, Same}
 
 choose : {A B : Type 0} (f : A → B) (b : Bool) (x : A) (rest : Option A)
     → option_map f (cond b (Some x) rest) ≡ cond b (Some (f x)) (option_map f rest)

@@ -2,8 +2,8 @@
 -- which files and folders were requested.
 use Rattle.std.specs.Prelude.{◌≡◌, ℕ, List, ◌++◌, Bool, Option, None, Some, Result, Ok, Err, option_map, ⊤, if◌then◌else◌}
 use Rattle.std.specs.Str.{bytes_eq}
-use Rattle.liquid_program.specs.declared.folder.Unread.{Unread}
-use Rattle.liquid_program.specs.declared.folder.Unread.TheVariants.{Fault, Memory}
+use Rattle.liquid_files.specs.declared.folder.Unread.{Unread}
+use Rattle.liquid_files.specs.declared.folder.Unread.TheVariants.{Fault, Memory}
 
 -- nothing is known, or the content is known, or it is known that it can't be read; an out-of-memory error says nothing
 abbrev pub Reads : {V B : Type 0} → (V → B) → Option (Option B) → Result V Unread → Type 0
