@@ -9,8 +9,8 @@ use std::rt::Files;
 /// A folder that is still to be listed: its path within the folder that is asked for, followed by a slash, or nothing.
 type Below = String;
 
-/// Returns the paths, within the folder, of the files in it and in its subfolders. Links are passed over, so no file
-/// outside the folder is among them.
+/// Returns the paths, within the folder, of the files in it and in its subfolders, in byte order. Links are passed over, so
+/// no file outside the folder is among them.
 pub(crate) fn files_below<R: Files + AllocGlobal + Clone + Drop>(
     alloc: Global,
     rt: &R,
@@ -25,6 +25,7 @@ pub(crate) fn files_below<R: Files + AllocGlobal + Clone + Drop>(
         };
         list_one(alloc, rt, folder, below.as_str(), &mut files, &mut left)?;
     }
+    files.sort().map_err(|_| Unread::Memory)?;
     Ok(files)
 }
 

@@ -1,0 +1,13 @@
+//! The pages of a site: what is rendered and what is copied, within which layouts, and which files are written.
+#![tactic(auto)]
+
+pub mod engine;
+pub mod fault;
+mod front;
+pub mod items;
+pub mod layouts;
+
+pub use engine::{Engine, Failure, Source};
+pub use fault::PageFault;
+pub use items::{Item, add_items, is_page, page_name};
+pub use layouts::{Partials, render_page};
