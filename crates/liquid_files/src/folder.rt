@@ -80,6 +80,14 @@ pub trait Folder {
         Err(Unread::Fault)
     }
 
+    /// Makes the folders that the file at `path` is to be in, as far as they are missing. By default there are none to make.
+    /// A folder that can't be made shows when the file is written.
+    fn make_folders(&mut self, _alloc: Global, _path: &str)
+        ensures same { known self.new ≡ known self.old }
+        ensures listed { listed self.new ≡ listed self.old }
+        ensures requests { requests self.new ≡ requests self.old }
+    {}
+
     /// Returns `true` if both paths lead to one file. By default they do if they are alike.
     fn is_same_file(&self, first: &str, second: &str) -> bool {
         first == second

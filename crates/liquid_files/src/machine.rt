@@ -7,6 +7,7 @@ use crate::tree::files_below;
 use std::alloc::Global;
 use std::fs::{self, DirEntry, File, OpenFile};
 use std::io::{self, Eprint, ErrorKind, Read, Write};
+use std::path::Path;
 use std::rt::Files;
 
 /// The files of the machine, by the runtime, and whether its error stream is a terminal, so that someone may watch.
@@ -147,6 +148,12 @@ impl<R: Files + AllocGlobal + Eprint + Clone + Drop> Folder for Machine<'_, R> {
                 let _ = fs::remove_file(self.rt, beside.as_str());
                 Err(unread(error))
             }
+        }
+    }
+
+    fn make_folders(&mut self, _alloc: Global, path: &str) {
+        if let Some(folder) = Path::new(path).parent() {
+            let _ = fs::create_dir_all(self.rt, folder);
         }
     }
 

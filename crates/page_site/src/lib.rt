@@ -6,8 +6,10 @@ pub mod fault;
 mod front;
 pub mod items;
 pub mod layouts;
+pub mod site;
 
 pub use engine::{Engine, Failure, Source};
-pub use fault::PageFault;
+pub use fault::{PageFault, SiteFault};
 pub use items::{Item, add_items, is_page, page_name};
 pub use layouts::{Partials, render_page};
+pub use site::{Site, make, write_item, write_items};
