@@ -1,4 +1,5 @@
 pub mod ItemLemmas
 pub mod Names
 pub mod PageNames
+pub mod PartialLemmas
 pub mod WrapLemmas

@@ -3,3 +3,4 @@ pub mod Faults
 pub mod Front
 pub mod Items
 pub mod Layouts
+pub mod Partials

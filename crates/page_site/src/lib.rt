@@ -6,10 +6,12 @@ pub mod fault;
 mod front;
 pub mod items;
 pub mod layouts;
+pub mod partials;
 pub mod site;
 
 pub use engine::{Engine, Failure, Source};
 pub use fault::{PageFault, SiteFault};
 pub use items::{Item, add_items, is_page, page_name};
 pub use layouts::{Partials, render_page};
+pub use partials::{read_partials, read_text};
 pub use site::{Site, make, write_item, write_items};

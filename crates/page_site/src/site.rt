@@ -51,10 +51,15 @@ pub fn make<F: Folder, E: Engine>(
 }
 
 /// Returns the bytes of a file.
-fn read<F: Folder>(alloc: Global, files: &mut F, path: &str) -> Result<Vec<u8>, SiteFault>
+pub(crate) fn read<F: Folder>(
+    alloc: Global,
+    files: &mut F,
+    path: &str,
+) -> Result<Vec<u8>, SiteFault>
     ensures bytes { IfOk result (λ bytes. MayBe (F.known files.old path.now) bytes.items) }
     ensures unread { IfErr result (λ fault. IsUnread fault (F.known files.old path.now)) }
     ensures same { F.known files.new ≡ F.known files.old }
+    ensures listed { F.listed files.new ≡ F.listed files.old }
     ensures requests { F.requests files.new ≡ also (F.requests files.old) (reading path.now ∷ []) }
 {
     match files.read(alloc, path) {

@@ -54,10 +54,14 @@ item_of item = record { source = string_bytes item.source; target = string_bytes
 abbrev pub page_name : List ℕ → List ℕ
 page_name name = if ends_with nat_eq name (codes ".liquid") then take (length name - 7) name else name
 
+-- the path of a file in a folder
+abbrev pub file_in : List ℕ → List ℕ → List ℕ
+file_in folder name = folder ++ (codes "/" ++ name)
+
 -- a file of a folder, which goes to its own path below the output
 abbrev pub item_in : List ℕ → List ℕ → List ℕ → ItemShape
 item_in output folder name =
-    record { source = folder ++ (codes "/" ++ name); target = output ++ page_name name; is_template = false }
+    record { source = file_in folder name; target = output ++ page_name name; is_template = false }
 
 -- what a word names: the files of a folder, or else the template at the path
 abbrev pub items_at : List ℕ → List ℕ → Option (List (List ℕ)) → List ItemShape
