@@ -5,6 +5,7 @@ ghost use Rattle.page_site.specs.meaning.Items.{has_front, is_page, item_in, ite
 
 use liquid_files::{Folder, Unread};
 use std::alloc::{AllocError, Global};
+use std::collections::BTreeSet;
 use std::path::Path;
 
 /// A file of a site.
@@ -130,4 +131,16 @@ pub fn is_page(item: &Item, bytes: &[u8]) -> bool
     ensures { result ≡ is_page (item_of item.now) bytes.now }
 {
     item.is_template || item.source.as_str().as_bytes().ends_with(b".liquid") || has_front(bytes)
+}
+
+/// Returns a path that two of the files go to, if there is one.
+pub fn find_clash<'i>(alloc: Global, items: &'i [Item]) -> Result<Option<&'i str>, AllocError> {
+    let mut targets: BTreeSet<&'i str> = BTreeSet::new(alloc);
+    for item in items {
+        let target = item.target.as_str();
+        if !targets.insert(target)? {
+            return Ok(Some(target));
+        }
+    }
+    Ok(None)
 }

@@ -1,0 +1,4 @@
+mod Columns
+mod LineBytes
+mod Paths
+mod Walk

@@ -1,0 +1,25 @@
+use Rattle.std.proofs.Common.{◌≡◌, ◌<◌, ◌+◌, [], length, drop, sym, ap, ◌∙◌, arith, rules}
+use Rattle.std.proofs.lemmas.List.{drop_all}
+use Rattle.csv.specs.Records.{fields_of, field_at}
+use Rattle.liquid_value.specs.meaning.View.{members_view}
+use Rattle.page_data.specs.meaning.Sheet.{put_field, row_members}
+use Rattle.page_data.proofs.Columns.{one_more_field}
+use Rattle.page_data.proofs.rows.object_of_row.Goals as goal
+
+pub loop-place-preserved : goal.loop-place-preserved
+loop-place-preserved c =
+    let names = fields_of c.args.names.now in
+    let fields = fields_of c.args.row.now in
+    let i = c.loop-place.place in
+    let here : i < length names = omega arith in
+    let put = c.in_ok-put_field.ensures
+    ∙ ap (λ n. put_field n _ (members_view c.loop-place.object.entries)) c.get-name.ensures.value
+    ∙ ap (λ f. put_field (field_at names i) f (members_view c.loop-place.object.entries)) c.get-field.ensures.value in
+    c.loop-place.invariant ∙ one_more_field i names fields _ here
+    ∙ ap (row_members (drop (i + 1) names) (drop (i + 1) fields)) (sym put)
+
+pub returns : goal.returns
+returns c =
+    let names = fields_of c.args.names.now in
+    let none : drop c.loop-place.place names ≡ [] = drop_all c.loop-place.place names (omega arith) in
+    sym (c.loop-place.invariant ∙ ap (λ ns. row_members ns _ _) none)
