@@ -20,6 +20,20 @@ pub struct DataFile<'w> {
     pub path: &'w str,
 }
 
+/// Returns the file of data that a word names, as `PATH` or `NAME=PATH`.
+pub fn data_file(word: &str) -> DataFile<'_> {
+    match word.split_once("=") {
+        Some((name, path)) => DataFile {
+            name: Some(name),
+            path,
+        },
+        None => DataFile {
+            name: None,
+            path: word,
+        },
+    }
+}
+
 /// Returns the names that these files of data and these assignments give. A later one is over an earlier one.
 pub fn read_names<'w, F: Folder>(
     alloc: Global,

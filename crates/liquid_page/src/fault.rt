@@ -2,6 +2,7 @@
 ghost use Rattle.std.specs.Prelude.{◌≢◌};
 
 use page_data::{DataFault, SetFault};
+use page_options::WordFault;
 use page_site::SiteFault;
 use std::alloc::{AllocError, AllocFailed};
 
@@ -11,9 +12,15 @@ pub enum CommandFault {
     /// Memory ran out.
     #[error("liquid: out of memory\n")]
     Memory,
-    /// The words are not a command, as this line says.
+    /// The words are not a command.
     #[error("liquid page: {0}\ntry: liquid page --help\n")]
-    Words(String),
+    Words(WordFault),
+    /// No template is named.
+    #[error("liquid page: no template\ntry: liquid page --help\n")]
+    NoTemplate,
+    /// Several pages are for one output.
+    #[error("liquid page: several pages need a folder, as in -o FOLDER\ntry: liquid page --help\n")]
+    NoFolder,
     /// A file or a folder is not read.
     #[error("liquid: {0}\n")]
     Site(SiteFault),
@@ -49,6 +56,12 @@ impl From<SiteFault> for CommandFault {
     }
 }
 
+impl From<WordFault> for CommandFault {
+    fn from(fault: WordFault) -> CommandFault {
+        CommandFault::Words(fault)
+    }
+}
+
 impl CommandFault {
     /// Returns the exit status for the fault: 2 if the words are not a command, 3 if a file is not what it should be, and
     /// otherwise 1.
@@ -56,7 +69,11 @@ impl CommandFault {
         ensures { result ≢ 0 }
     {
         match self {
-            CommandFault::Words(_) | CommandFault::BadSet(..) => 2,
+            CommandFault::Words(WordFault::Memory) => 1,
+            CommandFault::Words(_)
+            | CommandFault::NoTemplate
+            | CommandFault::NoFolder
+            | CommandFault::BadSet(..) => 2,
             CommandFault::Site(fault) => fault.status(),
             CommandFault::NoFormat(_) | CommandFault::BadData(..) => 3,
             CommandFault::Memory | CommandFault::SameTarget(_) => 1,

@@ -5,10 +5,8 @@ pub mod data;
 pub mod engine;
 pub mod fault;
 pub mod run;
-pub mod settings;
 pub mod sources;
 
 pub use engine::{Explain, Explained, PageEngine};
 pub use fault::CommandFault;
 pub use run::run_page;
-pub use settings::{Settings, read_words};

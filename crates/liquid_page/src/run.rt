@@ -5,18 +5,19 @@ ghost use Rattle.liquid_value.specs.meaning.View.{object_view};
 ghost use Rattle.page_site.specs.meaning.Faults.{partial_text};
 ghost use Rattle.page_site.specs.meaning.Items.{IsMade, WritesItems, item_of};
 
-use crate::data::read_names;
+use crate::data::{DataFile, data_file, read_names};
 use crate::engine::{Explain, PageEngine};
 use crate::fault::CommandFault;
-use crate::settings::{Settings, read_words};
 use crate::sources::SharedSource;
 use liquid_files::Folder;
+use liquid_pages::{PageFrame, PageOptions};
 use liquid_parser::{Language, ParseBlock, ParseTag};
 use liquid_partials::InMemorySource;
 use liquid_plugins::{Discreet, ParseFilter};
 use liquid_runtime::Fresh;
 use liquid_value::SharedObject;
-use page_site::{Engine, Item, Partials, Site, add_items, find_clash, make, read_partials, write_items};
+use page_options::{PAGE, Settings, page_help, read_words};
+use page_site::{Engine, Item, Partials, Site, add_items, find_clash, make, read_partials, report, write_items};
 use std::alloc::{AllocError, Global};
 use std::collections::BTreeMap;
 use std::io::Write;
@@ -80,8 +81,15 @@ where
     W: Write,
     E: Write,
 {
-    let settings = read_words(alloc, words)?;
-    let names = read_names(alloc, files, settings.data.as_slice(), settings.sets.as_slice())?;
+    let mut texts = Vec::new(alloc);
+    for word in words {
+        texts.push(word.as_str())?;
+    }
+    let settings = read_words(alloc, &PAGE, texts.as_slice())?;
+    if settings.help {
+        return Ok(print(page_help(alloc)?.as_bytes(), out));
+    }
+    let names = names_of(alloc, files, &settings)?;
     let partials = match settings.partials {
         Some(folder) => read_partials(alloc, files, folder)?,
         None => BTreeMap::new(alloc),
@@ -89,25 +97,65 @@ where
     let mut engine: PageEngine<V, F, T, B, X> = PageEngine {
         language,
         partials: SharedSource::new(alloc, source_of(alloc, &partials)?)?,
-        options: settings.options,
+        options: options_of(&settings),
         explain,
         register: PhantomData,
     };
-    let site = Site {
-        names: SharedObject::shared(alloc, names)?,
-        partials,
-    };
+    let site = Site { names, partials };
     match settings.output {
         Some(output) => {
             let items = plan(alloc, files, &settings, output)?;
             Ok(write_items(alloc, &site, &mut engine, files, items.as_slice(), err))
         }
-        None => match settings.templates.as_slice() {
-            [template] => print_page(alloc, &site, &mut engine, files, *template, out),
-            _ => Err(CommandFault::Words(
-                String::from_str(alloc, "several pages need a folder: -o FOLDER")?,
-            )),
+        None => match settings.files.as_slice() {
+            [template] => print_page(alloc, &site, &mut engine, files, *template, out, err),
+            [] => Err(CommandFault::NoTemplate),
+            _ => Err(CommandFault::NoFolder),
         },
+    }
+}
+
+/// Returns the names that the pages are rendered over.
+fn names_of<D: Folder>(
+    alloc: Global,
+    files: &mut D,
+    settings: &Settings<'_>,
+) -> Result<SharedObject, CommandFault>
+    ensures same { D.known files.new ≡ D.known files.old }
+{
+    let mut data: Vec<DataFile<'_>> = Vec::new(alloc);
+    for word in settings.data.as_slice() {
+        data.push(data_file(*word))?;
+    }
+    let names = read_names(alloc, files, data.as_slice(), settings.set.as_slice())?;
+    Ok(SharedObject::shared(alloc, names)?)
+}
+
+/// Returns the options of the pages.
+fn options_of(settings: &Settings<'_>) -> PageOptions {
+    PageOptions {
+        frame: if settings.sandboxed { PageFrame::Isolated } else { PageFrame::Open },
+        decimals: true,
+        lenient: settings.lenient,
+        max_turns: limit_of(settings.turns),
+        max_bytes: limit_of(settings.bytes),
+    }
+}
+
+/// Returns a limit. 0 is none.
+fn limit_of(number: Option<u64>) -> Option<u64> {
+    match number {
+        Some(0) | None => None,
+        Some(number) => Some(number),
+    }
+}
+
+/// Writes bytes to an output, and returns the status.
+fn print<W: Write>(bytes: &[u8], out: &mut W) -> u8 {
+    if out.write_all(bytes).is_ok() && out.flush().is_ok() {
+        0
+    } else {
+        1
     }
 }
 
@@ -134,8 +182,11 @@ fn plan<D: Folder>(
         Some(_) => String::from_str(alloc, output)?,
         None => format!(in alloc; "{output}/")?,
     };
+    if settings.files.is_empty() {
+        return Err(CommandFault::NoTemplate);
+    }
     let mut items = Vec::new(alloc);
-    for word in settings.templates.as_slice() {
+    for word in settings.files.as_slice() {
         add_items(alloc, files, folder.as_str(), *word, &mut items)?;
     }
     if let [item] = items.as_mut_slice() {
@@ -149,14 +200,15 @@ fn plan<D: Folder>(
     }
 }
 
-/// Writes the page of a template to an output, if it is whole.
-fn print_page<D: Folder, E: Engine, W: Write>(
+/// Writes the page of a template to `out`, if it is whole, and its fault to `err`. Returns the status.
+fn print_page<D: Folder, E: Engine, W: Write, R: Write>(
     alloc: Global,
     site: &Site,
     engine: &mut E,
     files: &mut D,
     template: &str,
     out: &mut W,
+    err: &mut R,
 ) -> Result<u8, CommandFault>
     ensures same { D.known files.new ≡ D.known files.old }
 {
@@ -165,7 +217,8 @@ fn print_page<D: Folder, E: Engine, W: Write>(
         target: String::new(alloc),
         is_template: true,
     };
-    let page = make(alloc, site, engine, files, &item)?;
-    let written = out.write_all(page.as_slice()).is_ok() && out.flush().is_ok();
-    Ok(if written { 0 } else { 1 })
+    match make(alloc, site, engine, files, &item) {
+        Ok(page) => Ok(print(page.as_slice(), out)),
+        Err(fault) => Ok(report(template, Err(fault), err)),
+    }
 }

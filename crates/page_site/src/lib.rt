@@ -14,4 +14,4 @@ pub use fault::{PageFault, SiteFault};
 pub use items::{Item, add_items, find_clash, is_page, page_name};
 pub use layouts::{Partials, render_page};
 pub use partials::{read_partials, read_text};
-pub use site::{Site, make, write_item, write_items};
+pub use site::{Site, make, report, write_item, write_items};

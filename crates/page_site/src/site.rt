@@ -155,15 +155,15 @@ fn write_each<F: Folder, E: Engine, W: Write>(
         None => status,
         Some((item, rest)) => {
             let answer = write_item(alloc, site, engine, files, item);
-            let one = report(answer, err);
+            let one = report(item.source.as_str(), answer, err);
             let status = if status == 0 { one } else { status };
             write_each(alloc, site, engine, files, rest, status, err)
         }
     }
 }
 
-/// Returns the status of a file, and writes its fault to `err`, if it has one.
-fn report<W: Write>(answer: Result<(), SiteFault>, err: &mut W) -> u8
+/// Returns the status of the file at this path, and writes its fault to `err`, if it has one.
+pub fn report<W: Write>(source: &str, answer: Result<(), SiteFault>, err: &mut W) -> u8
     ensures ok { OnOk answer (result ≡ 0) }
     ensures fault { OnErr answer (result ≢ 0) }
     ensures quiet { result ≡ 0 → err.new ≡ err.old }
@@ -171,8 +171,19 @@ fn report<W: Write>(answer: Result<(), SiteFault>, err: &mut W) -> u8
     match answer {
         Ok(()) => 0,
         Err(fault) => {
-            let _ = writeln!(err, "liquid: {fault}");
+            write_fault(source, &fault, err);
             fault.status()
         }
     }
+}
+
+/// Writes the fault of the file at this path.
+fn write_fault<W: Write>(source: &str, fault: &SiteFault, err: &mut W) {
+    let _ = match fault {
+        SiteFault::Page(PageFault::Unrendered(message)) => write!(err, "{message}"),
+        SiteFault::Page(PageFault::NoLayout(_) | PageFault::LayoutAgain(_)) => {
+            writeln!(err, "liquid: {source}: {fault}")
+        }
+        _ => writeln!(err, "liquid: {fault}"),
+    };
 }

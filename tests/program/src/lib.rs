@@ -12,6 +12,7 @@ mod lenient;
 mod limits;
 mod long_commands;
 mod notes;
+mod page;
 mod partials;
 mod places;
 mod runs;
