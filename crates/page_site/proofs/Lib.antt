@@ -1,3 +1,4 @@
+pub mod FrontLemmas
 pub mod ItemLemmas
 pub mod Names
 pub mod PageNames

@@ -4,7 +4,7 @@ use Rattle.liquid_value.specs.meaning.Tree.{Members}
 use Rattle.page_site.specs.declared.fault.PageFault.{PageFault}
 use Rattle.page_site.specs.meaning.Answers.{Answers, StaysWithin}
 use Rattle.page_site.specs.meaning.Faults.{trouble_of}
-use Rattle.page_site.specs.meaning.Front.{Splits, Unsplit}
+use Rattle.page_site.specs.meaning.Front.{Splits}
 use Rattle.page_site.specs.meaning.Layouts.{
   Broken,
   BrokenIn,
@@ -19,6 +19,7 @@ use Rattle.page_site.specs.meaning.Layouts.{
   bad_front,
   layout_again,
   layout_in,
+  layout_path,
   no_layout,
   unrendered,
   with_page,
@@ -115,3 +116,48 @@ page_wrapped before after partials names whole matter body content more next (Ok
         (wrapped_before before after partials more layouts [] next content (string_bytes page) same h)),
   ),
 )
+
+-- the front matter of a layout can't be read
+pub bad_front_breaks : (answers : Answers) (partials : List ℕ → Option (List ℕ)) (names : Members) (seen : List (List ℕ))
+    (name content : List ℕ) (o : Option Trouble) (whole : List ℕ) → partials (layout_path name) ≡ Some whole
+    → IfSome o (λ t. t ≡ bad_front) → IfSome o (IsBroken answers partials names seen name content)
+bad_front_breaks answers partials names seen name content None whole found h = tt
+bad_front_breaks answers partials names seen name content (Some t) whole found is =
+    subst (IsBroken answers partials names seen name content) (sym is) (whole, found)
+
+broken_in_before : (before after : Answers) (partials : List ℕ → Option (List ℕ)) (names : Members) (layouts : List Layout)
+    (seen : List (List ℕ)) (next : Option (List ℕ)) (content : List ℕ) (trouble : Trouble) → StaysWithin before after
+    → BrokenIn after partials names layouts seen next content trouble → BrokenIn before partials names layouts seen next content trouble
+broken_in_before before after partials names layouts seen None content trouble same h = h
+broken_in_before before after partials names [] seen (Some name) content trouble same h =
+    broken_before before after partials names seen name content trouble same h
+broken_in_before before after partials names (layout ∷ layouts) seen (Some name) content trouble same (made, (new, found, splits, answer), rest) = (
+  made,
+  (new, found, splits, same _ _ _ answer),
+  broken_in_before before after partials names layouts (seen ++ name ∷ []) (layout_in layout.matter) made trouble same rest,
+)
+
+-- why a page has no end, by what its text and its layouts came to
+pub page_broken : (before after : Answers) (partials : List ℕ → Option (List ℕ)) (names : Members) (whole : List ℕ)
+    (matter : Option Members) (body content : List ℕ) (more : Members) (next : Option (List ℕ)) (r : Result (String Global) PageFault)
+    → StaysWithin before after → Splits whole matter body → more ≡ with_page matter names → next ≡ layout_in matter
+    → before body more (Some content)
+    → IfErr r (λ fault. IfSome (trouble_of fault) (Broken after partials more [] next content))
+    → IfErr r (λ fault. IfSome (trouble_of fault) (HasTrouble before partials names whole))
+page_broken before after partials names whole matter body content more next (Ok page) same splits is named answer h = tt
+page_broken before after partials names whole matter body content more next (Err fault) same splits is named answer h =
+    if_some (trouble_of fault) _ _ h (λ t (layouts, broken). inr (
+      matter,
+      body,
+      splits,
+      inr (
+        content,
+        subst (λ n. before body n (Some content)) is answer,
+        (
+          layouts,
+          subst (λ n. BrokenIn before partials n layouts [] (layout_in matter) content t) is
+              (subst (λ l. BrokenIn before partials more layouts [] l content t) named
+              (broken_in_before before after partials more layouts [] next content t same broken)),
+        ),
+      ),
+    ))

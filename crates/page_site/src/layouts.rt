@@ -3,7 +3,7 @@ ghost use Rattle.std.specs.Prelude.{◌≡◌, List, [], Some, None, map, option
 ghost use Rattle.liquid_value.specs.meaning.Members.{get_member, put_member};
 ghost use Rattle.liquid_value.specs.meaning.View.{view, members_view, object_view};
 ghost use Rattle.page_site.specs.meaning.Faults.{partial_text, trouble_of};
-ghost use Rattle.page_site.specs.meaning.Front.{Splits, Unsplit};
+ghost use Rattle.page_site.specs.meaning.Front.{Splits};
 ghost use Rattle.page_site.specs.meaning.Layouts.{
   Broken,
   HasTrouble,
@@ -67,7 +67,7 @@ pub fn render_page<E: Engine>(
 /// Takes the front matter off the text of a file.
 fn split<'t>(alloc: Global, path: &str, text: &'t str) -> Result<Front<'t>, PageFault>
     ensures splits { IfOk result (λ front. Splits text.now (option_map (λ m. members_view m.entries) front.matter) front.body.now) }
-    ensures trouble { IfErr result (λ fault. IfSome (trouble_of fault) (λ trouble. (trouble ≡ bad_front) × Unsplit text.now)) }
+    ensures trouble { IfErr result (λ fault. IfSome (trouble_of fault) (λ trouble. trouble ≡ bad_front)) }
 {
     match split_front_matter(alloc, text) {
         Ok(front) => Ok(front),

@@ -3,11 +3,12 @@
 
 pub mod engine;
 pub mod fault;
-mod front;
+pub mod front;
 pub mod items;
 pub mod layouts;
 pub mod partials;
 pub mod site;
+mod yaml;
 
 pub use engine::{Engine, Failure, Source};
 pub use fault::{PageFault, SiteFault};

@@ -7,7 +7,7 @@ use Rattle.liquid_scalar.specs.meaning.Scalar.{text}
 use Rattle.liquid_value.specs.meaning.Members.{get_member, put_member}
 use Rattle.liquid_value.specs.meaning.Tree.{Tree, Members, scalar, object}
 use Rattle.page_site.specs.meaning.Answers.{Answers}
-use Rattle.page_site.specs.meaning.Front.{Splits, Unsplit}
+use Rattle.page_site.specs.meaning.Front.{Splits}
 
 -- the text of a scalar that is one
 abbrev pub text_of : Tree → Option (List ℕ)
@@ -73,7 +73,7 @@ module _ (answers : Answers) (partials : List ℕ → Option (List ℕ)) (names 
   abbrev pub IsBroken : List (List ℕ) → List ℕ → List ℕ → Trouble → Type 0
   IsBroken seen name content (no_layout other) = (other ≡ name) × (partials (layout_path name) ≡ None)
   IsBroken seen name content (layout_again other) = (other ≡ name) × (is_among name seen ≡ true)
-  IsBroken seen name content bad_front = (whole : List ℕ) × (partials (layout_path name) ≡ Some whole) × Unsplit whole
+  IsBroken seen name content bad_front = (whole : List ℕ) × (partials (layout_path name) ≡ Some whole)
   IsBroken seen name content unrendered =
       (layout : Layout) × (partials (layout_path name) ≡ Some layout.whole) × Splits layout.whole layout.matter layout.body
       × answers layout.body (with_content content names) None
@@ -106,5 +106,5 @@ module _ (answers : Answers) (partials : List ℕ → Option (List ℕ)) (names 
 
   abbrev pub HasTrouble : List ℕ → Trouble → Type 0
   HasTrouble whole trouble =
-      ((trouble ≡ bad_front) × Unsplit whole)
+      (trouble ≡ bad_front)
       ⊎ ((matter : Option Members) × (body : List ℕ) × Splits whole matter body × IsBrokenOver matter body trouble)

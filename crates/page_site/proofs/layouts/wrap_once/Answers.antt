@@ -3,7 +3,7 @@ use Rattle.liquid_value.specs.meaning.View.{members_view, object_view}
 use Rattle.page_site.specs.meaning.Faults.{partial_text, trouble_of}
 use Rattle.page_site.specs.meaning.Front.{Splits}
 use Rattle.page_site.specs.meaning.Layouts.{IsBroken, is_among, layout_path, with_content}
-use Rattle.page_site.proofs.WrapLemmas.{if_err, if_it_is}
+use Rattle.page_site.proofs.WrapLemmas.{bad_front_breaks, if_err, if_it_is}
 use Rattle.page_site.proofs.layouts.wrap_once.Goals as goal
 
 pub returns-in_err-content-in-Some-clause-trouble :
@@ -36,3 +36,16 @@ returns-in_ok-content-in-Some-clause-wraps g c =
     (Some (string_bytes c.in_ok-content-in-Some.content)) =
     rw c.in_ok-names-in-Some.ensures at c.in_ok-content-in-Some.ensures.renders in
     (record { whole = c.in-Some.text.now; matter = matter; body = front.body.now }, (new, found, splits, answer), search rules)
+
+pub returns-in_err-front-in-Some-clause-trouble : goal.returns-in_err-front-in-Some-clause-trouble
+returns-in_err-front-in-Some-clause-trouble g c =
+    let answers = g.E.Engine.answers c.args.engine.now in
+    let partials = partial_text c.args.partials.now in
+    let names = object_view c.args.names.now in
+    let name = c.args.name.now in
+    let fault = c.in_err-front-in-Some.field-0.0 in
+    let found : partials (layout_path name) ≡ Some c.in-Some.text.now = search rules in
+    if_err c.from_residual-in_err-front-in-Some.result fault
+    (IsBroken answers partials names (map string_bytes c.args.seen.now) name (string_bytes c.args.content)) (search rules)
+    (bad_front_breaks answers partials names (map string_bytes c.args.seen.now) name (string_bytes c.args.content) (trouble_of fault)
+    c.in-Some.text.now found c.in_err-front-in-Some.ensures.trouble)
