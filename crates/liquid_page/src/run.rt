@@ -17,7 +17,9 @@ use liquid_plugins::{Discreet, ParseFilter};
 use liquid_runtime::Fresh;
 use liquid_value::SharedObject;
 use page_options::{PAGE, Settings, page_help, read_words};
-use page_site::{Engine, Item, Partials, Site, add_items, find_clash, make, read_partials, report, write_items};
+use page_site::{
+    Engine, Item, Partials, Site, add_items, find_clash, make, read_partials, report, write_items,
+};
 use std::alloc::{AllocError, Global};
 use std::collections::BTreeMap;
 use std::io::Write;
@@ -134,7 +136,11 @@ fn names_of<D: Folder>(
 /// Returns the options of the pages.
 fn options_of(settings: &Settings<'_>) -> PageOptions {
     PageOptions {
-        frame: if settings.sandboxed { PageFrame::Isolated } else { PageFrame::Open },
+        frame: if settings.sandboxed {
+            PageFrame::Isolated
+        } else {
+            PageFrame::Open
+        },
         decimals: true,
         lenient: settings.lenient,
         max_turns: limit_of(settings.turns),

@@ -1,4 +1,0 @@
-mod Columns
-mod LineBytes
-mod Paths
-mod Walk
