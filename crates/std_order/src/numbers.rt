@@ -37,13 +37,13 @@ pub fn sort_numeric(
     ensures { Gives tree_of result (sorted_numerically (tree_of input.now) (map cow_view arguments.now)) }
 {
     let entries = entries(alloc, input, arguments)?;
-    let mut numbered = numbered(alloc, entries.as_slice())?;
+    let mut numbered = with_numbers(alloc, entries.as_slice())?;
     sort_numbers(&mut numbered)?;
     Ok(list_of_numbered(alloc, numbered.as_slice())?)
 }
 
 /// Returns each item with the number of its key.
-fn numbered<'v>(alloc: Global, entries: &[Entry<'v>]) -> Result<Vec<Numbered<'v>>, Error>
+fn with_numbers<'v>(alloc: Global, entries: &[Entry<'v>]) -> Result<Vec<Numbered<'v>>, Error>
     ensures { Gives (λ v. map numbered_view v.items) result (numbered (map entry_view entries.now)) }
 {
     let mut numbered = Vec::with_capacity(alloc, entries.len())?;

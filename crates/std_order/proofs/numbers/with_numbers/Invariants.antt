@@ -3,7 +3,7 @@ use Rattle.std_lists.specs.meaning.Entries.{entry_view}
 use Rattle.std_lists.proofs.Steps.{after}
 use Rattle.std_order.specs.meaning.Numbered.{numbered_view}
 use Rattle.std_order.specs.meaning.Numbers.{numbered}
-use Rattle.std_order.proofs.numbers.numbered.Given as goal
+use Rattle.std_order.proofs.numbers.with_numbers.Given as goal
 
 abbrev pub invariant-loop-entry : goal.invariant-loop-entry
 invariant-loop-entry l =
