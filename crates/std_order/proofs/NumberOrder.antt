@@ -46,7 +46,8 @@ times_twice (negsuc a) p q = negated_times (suc a * p) q ∙ ap (λ n. neg_ℤ (
 
 -- a positive factor does not change an order
 scaled_lt : (x y : ℤ) (k : ℕ) → 0 < k → x <ℤ y → (x *ℤ pos k) <ℤ (y *ℤ pos k)
-scaled_lt (pos a) (pos b) k above h = let w = mul-lt-mul_of_pos_right {m = a} {n = b} {k = k} (omega (arith, ints)) above in omega (arith, ints)
+scaled_lt (pos a) (pos b) k above h =
+    let w = mul-lt-mul_of_pos_right {m = a} {n = b} {k = k} (omega (arith, ints)) above in omega (arith, ints)
 scaled_lt (pos a) (negsuc b) k above h = absurd (omega (arith, ints))
 scaled_lt (negsuc a) (pos b) k above h = let w = product_above_0 (suc a) k (omega arith) above in omega (arith, ints)
 scaled_lt (negsuc a) (negsuc b) k above h =
