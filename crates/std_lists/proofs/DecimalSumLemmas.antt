@@ -1,5 +1,29 @@
 -- Steps of a sum of decimals.
-use Rattle.std.proofs.Common.{◌≡◌, ℕ, ℤ, pos, negsuc, suc, ◌-◌, ◌*◌, ◌*ℤ◌, ◌+ℤ◌, ◌<ℤ◌, ◌≤ℤ◌, ◌^◌, ◌≤◌, neg_ℤ, List, [], ◌∷◌, ◌++◌, refl, ap, ◌∙◌, arith}
+use Rattle.std.proofs.Common.{
+  ◌≡◌,
+  ℕ,
+  ℤ,
+  pos,
+  negsuc,
+  suc,
+  ◌-◌,
+  ◌*◌,
+  ◌*ℤ◌,
+  ◌+ℤ◌,
+  ◌<ℤ◌,
+  ◌≤ℤ◌,
+  ◌^◌,
+  ◌≤◌,
+  neg_ℤ,
+  List,
+  [],
+  ◌∷◌,
+  ◌++◌,
+  refl,
+  ap,
+  ◌∙◌,
+  arith,
+}
 use Rattle.std.specs.Prelude.{max, reverse}
 use Rattle.std.proofs.lemmas.List.{reverse-append}
 use Rattle.std.specs.Int.{int_div_euclid, int_rem_euclid}

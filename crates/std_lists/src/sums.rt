@@ -1,5 +1,5 @@
 //! The sum of a list.
-ghost use Rattle.std.specs.Prelude.{◌≡◌, map, option_map};
+ghost use Rattle.std.specs.Prelude.{map, option_map};
 ghost use Rattle.std.specs.Cow.{cow_str_bytes};
 ghost use Rattle.liquid_decimals.specs.meaning.Dec.{dec};
 ghost use Rattle.liquid_error.specs.meaning.Refusal.{ok_then};

@@ -1,5 +1,30 @@
 -- The order of numbers is total: that of their mantissas at one scale.
-use Rattle.std.proofs.Common.{◌≡◌, ℕ, ℤ, pos, negsuc, zero, suc, ◌+◌, ◌-◌, ◌*◌, ◌*ℤ◌, ◌^◌, ◌<◌, ◌≤◌, ◌<ℤ◌, neg_ℤ, Option, Some, None, refl, sym, ap, ◌∙◌, subst, arith}
+use Rattle.std.proofs.Common.{
+  ◌≡◌,
+  ℕ,
+  ℤ,
+  pos,
+  negsuc,
+  suc,
+  ◌+◌,
+  ◌-◌,
+  ◌*◌,
+  ◌*ℤ◌,
+  ◌^◌,
+  ◌<◌,
+  ◌≤◌,
+  ◌<ℤ◌,
+  neg_ℤ,
+  Option,
+  Some,
+  None,
+  refl,
+  sym,
+  ap,
+  ◌∙◌,
+  subst,
+  arith,
+}
 use Rattle.std.specs.declared.cmp.Ordering.{Ordering}
 use Rattle.std.specs.declared.cmp.Ordering.TheVariants.{Less, Equal, Greater}
 use Rattle.std.specs.Option.{option_map}
@@ -21,7 +46,8 @@ times_twice (negsuc a) p q = negated_times (suc a * p) q ∙ ap (λ n. neg_ℤ (
 
 -- a positive factor does not change an order
 scaled_lt : (x y : ℤ) (k : ℕ) → 0 < k → x <ℤ y → (x *ℤ pos k) <ℤ (y *ℤ pos k)
-scaled_lt (pos a) (pos b) k above h = let w = mul-lt-mul_of_pos_right {m = a} {n = b} {k = k} (omega (arith, ints)) above in omega (arith, ints)
+scaled_lt (pos a) (pos b) k above h =
+    let w = mul-lt-mul_of_pos_right {m = a} {n = b} {k = k} (omega (arith, ints)) above in omega (arith, ints)
 scaled_lt (pos a) (negsuc b) k above h = absurd (omega (arith, ints))
 scaled_lt (negsuc a) (pos b) k above h = let w = product_above_0 (suc a) k (omega arith) above in omega (arith, ints)
 scaled_lt (negsuc a) (negsuc b) k above h =

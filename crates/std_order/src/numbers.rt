@@ -6,7 +6,8 @@ ghost use Rattle.liquid_value.specs.meaning.Cow.{cow_view};
 ghost use Rattle.liquid_value.specs.meaning.View.{view as tree_of};
 ghost use Rattle.std_lists.specs.meaning.Entries.{entry_view};
 ghost use Rattle.std_lists.specs.meaning.Lists.{list_of};
-ghost use Rattle.std_order.specs.meaning.Numbers.{has_lesser_number, number_cmp, number_of_key, numbered, numbered_items, sorted_numerically};
+ghost use Rattle.std_order.specs.meaning.Numbers.{has_lesser_number, number_cmp, number_of_key, numbered, numbered_items};
+ghost use Rattle.std_order.specs.meaning.Numbers.{sorted_numerically};
 ghost use Rattle.std_order.specs.meaning.Numbered.{numbered_view};
 ghost use Rattle.std_order.specs.meaning.Order.{in_order};
 

@@ -1,5 +1,39 @@
 -- The words of a text that is cut to a number of words.
-use Rattle.std.proofs.Common.{◌≡◌, ℕ, ℤ, pos, negsuc, zero, suc, ◌<◌, ◌≤◌, Bool, true, false, ◌&&◌, ◌||◌, ltb, List, [], ◌∷◌, ◌++◌, length, map, take, refl, sym, ap, subst, ⊎_elim, inl, inr, ◌∙◌, append_assoc, append-nil, arith}
+use Rattle.std.proofs.Common.{
+  ◌≡◌,
+  ℕ,
+  ℤ,
+  pos,
+  negsuc,
+  zero,
+  suc,
+  ◌<◌,
+  ◌≤◌,
+  Bool,
+  true,
+  false,
+  ◌&&◌,
+  ◌||◌,
+  ltb,
+  List,
+  [],
+  ◌∷◌,
+  ◌++◌,
+  length,
+  map,
+  take,
+  refl,
+  sym,
+  ap,
+  subst,
+  ⊎_elim,
+  inl,
+  inr,
+  ◌∙◌,
+  append_assoc,
+  append-nil,
+  arith,
+}
 use Rattle.std.specs.Prelude.{codes, max}
 use Rattle.std.specs.Char.{encode_utf8, is_whitespace}
 use Rattle.std.specs.List.{All, filter, join_by, onto_first, slice_split, flat_map, take-map}

@@ -1,4 +1,4 @@
-use Rattle.std.proofs.Common.{ℤ, List, ap, sym, ◌∙◌, arith, of_z, to_z}
+use Rattle.std.proofs.Common.{ℤ, ap, sym, ◌∙◌, arith, of_z, to_z}
 use Rattle.std.specs.Int.{w128}
 use Rattle.std.specs.Prelude.{pos, ◌*ℤ◌, ◌+ℤ◌, ◌+◌, ◌^◌, drop, map}
 use Rattle.std.proofs.lemmas.Int.{ints}
@@ -41,5 +41,6 @@ returns c =
     ∙ ap fits (parts_joined total upper lower c.parts-carry.result.0 c.parts-carry.result.1
     (to_z w128 (of_z w128 (upper +ℤ to_z w128 (of_z w128 c.parts-carry.result.0)))) (to_z w128 (of_z w128 c.parts-carry.result.1))
     (c.loop-decimal.invariant.value
-    ∙ at_drop_all (λ ds. upper *ℤ pos (2 ^ 62) +ℤ lower +ℤ sum_at c.args.scale (map dec ds)) c.args.decimals.now c.loop-decimal.decimal-index c.loop-decimal-test.false)
+    ∙ at_drop_all (λ ds. upper *ℤ pos (2 ^ 62) +ℤ lower +ℤ sum_at c.args.scale (map dec ds)) c.args.decimals.now
+    c.loop-decimal.decimal-index c.loop-decimal-test.false)
     c.parts-carry.ensures.sum (omega (arith, ints)) (omega (arith, ints)))

@@ -1,14 +1,11 @@
-use Rattle.std.proofs.Common.{Bool, Option, map, Result, Ok, Err, ap, ◌∙◌, rules}
+use Rattle.std.proofs.Common.{Bool, map, Result, Ok, Err, ap, ◌∙◌, rules}
 use Rattle.std.specs.Prelude.{OnOk}
-use Rattle.std.specs.Option.{option_map}
 use Rattle.std.specs.Ordering.{is_lt}
 use Rattle.std.proofs.lemmas.Fn.{always_returns_same}
 use Rattle.std.proofs.lemmas.List.Sorted.{ranks_by}
-use Rattle.liquid_decimals.specs.declared.decimal.Decimal.{Decimal}
-use Rattle.liquid_decimals.specs.meaning.Dec.{dec}
 use Rattle.std_order.specs.declared.numbers.Numbered.{Numbered}
 use Rattle.std_order.specs.meaning.Numbered.{numbered_view}
-use Rattle.std_order.specs.meaning.Numbers.{has_lesser_number, number_cmp}
+use Rattle.std_order.specs.meaning.Numbers.{has_lesser_number}
 use Rattle.std_order.proofs.NumberOrder.{decimal_cmp_total, decimal_cmp}
 use Rattle.std_order.proofs.StableOrder.{in_order-from_sort, in_order-map}
 use Rattle.std_order.proofs.numbers.sort_numbers.Goals as goal
