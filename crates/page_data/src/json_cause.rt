@@ -3,7 +3,7 @@ ghost use Rattle.std.specs.Prelude.{◌≡◌};
 ghost use Rattle.serde_json.specs.Errors.{IsMemory};
 ghost use Rattle.page_data.specs.meaning.Sheet.{IsPlaced};
 
-use crate::fault::DataFault;
+use crate::fault::{DataFault, place_of};
 use serde_json::Error;
 use std::alloc::{AllocError, Global};
 
@@ -15,10 +15,11 @@ pub(crate) fn fault_of_json(alloc: Global, text: &str, error: &Error) -> DataFau
     if error.is_memory() {
         return DataFault::Memory;
     }
-    let (column, character) = character_at(text, error.line(), error.column());
-    match cause_of(alloc, error, character) {
+    let position = position_of(text, error.line(), error.column());
+    let (line, column) = place_of(text, position);
+    match cause_of(alloc, text, position, error) {
         Ok(cause) => DataFault::At {
-            line: error.line(),
+            line,
             column,
             cause,
         },
@@ -26,11 +27,19 @@ pub(crate) fn fault_of_json(alloc: Global, text: &str, error: &Error) -> DataFau
     }
 }
 
-/// Returns the words of an error, without its place, and what may be meant by the character there.
-fn cause_of(alloc: Global, error: &Error, character: Option<char>) -> Result<String, AllocError> {
+/// Returns why a text is not JSON from a position on.
+fn cause_of(
+    alloc: Global,
+    text: &str,
+    position: usize,
+    error: &Error,
+) -> Result<String, AllocError> {
+    if error.is_eof() {
+        return String::from_str(alloc, "the text ends too soon");
+    }
     let message = format!(in alloc; "{error}")?;
     let words = without_place(message.as_str());
-    match hint_of(character) {
+    match hint_of(text, position) {
         Some(hint) => format!(in alloc; "{words}: {hint}"),
         None => String::from_str(alloc, words),
     }
@@ -44,26 +53,22 @@ fn without_place(message: &str) -> &str {
     }
 }
 
-/// Returns what may be meant by a character that can't come next.
-fn hint_of(character: Option<char>) -> Option<&'static str> {
-    match character {
+/// Returns what may be meant by the character at a position, which can't come next.
+fn hint_of(text: &str, position: usize) -> Option<&'static str> {
+    let front = text.get(..position)?;
+    match text.get(position..)?.chars().next() {
         Some('\'') => Some("a text is put between double quotes"),
         Some('/' | '#') => Some("JSON has no comments"),
+        Some('}' | ']') if front.trim_end().ends_with(',') => Some("there is a comma before it"),
         _ => None,
     }
 }
 
-/// Returns the column, in characters, of a column in bytes, and the character there.
-fn character_at(text: &str, line: usize, column: usize) -> (usize, Option<char>) {
-    let Some(line) = text.split('\n').nth(line.saturating_sub(1)) else {
-        return (column, None);
-    };
-    let mut characters: usize = 1;
-    for (at, character) in line.char_indices() {
-        if at >= column.saturating_sub(1) {
-            return (characters, Some(character));
-        }
-        characters = characters.saturating_add(1);
+/// Returns the position of a line and a column in bytes, both from 1.
+fn position_of(text: &str, line: usize, column: usize) -> usize {
+    let mut position: usize = 0;
+    for part in text.split('\n').take(line.saturating_sub(1)) {
+        position = position.saturating_add(part.len()).saturating_add(1);
     }
-    (characters, None)
+    position.saturating_add(column.saturating_sub(1))
 }

@@ -24,13 +24,15 @@ fn is_read(alloc: Global, row: &Line) -> bool {
 }
 
 // The file, its text, and its object or its fault.
-const DATA: &str = r##"["a.json", "{\"b\": 1, \"a\": [true, null, \"x\"]}", "{\"a\":[true,null,\"x\"],\"b\":1}"]
+const DATA: &str =
+    r##"["a.json", "{\"b\": 1, \"a\": [true, null, \"x\"]}", "{\"a\":[true,null,\"x\"],\"b\":1}"]
 ["a.json", "\ufeff{\"a\": 12.50}", "{\"a\":\"12.50\"}"]
 ["a.json", "{\"a\": 1.5e3}", "{\"a\":1500}"]
-["a.json", "{\n \"a\": 1,\n}", "line 3, column 1: trailing comma"]
-["a.json", "{\"a\": 'x'}", "line 1, column 7: expected value: a text is put between double quotes"]
-["a.json", "{\"é\": x}", "line 1, column 7: expected value"]
-["a.json", "// a\n{}", "line 1, column 1: expected value: JSON has no comments"]
+["a.json", "{\n \"a\": 1,\n}", "line 3, column 1: invalid JSON: there is a comma before it"]
+["a.json", "{\"a\": 'x'}", "line 1, column 7: invalid JSON: a text is put between double quotes"]
+["a.json", "{\"é\": x}", "line 1, column 7: invalid JSON"]
+["a.json", "{\"a\": ", "line 1, column 6: the text ends too soon"]
+["a.json", "// a\n{}", "line 1, column 1: invalid JSON: JSON has no comments"]
 ["a.json", "[1]", "liquid: Object cannot be an array.\n"]
 ["a.json", "{\"a\": 9223372036854775808}", "liquid: Cannot fit number\n"]
 ["a.toml", "a = 1\nb = \"x\"\n[c]\nd = [1, true]\n", "{\"a\":1,\"b\":\"x\",\"c\":{\"d\":[1,true]}}"]
@@ -42,11 +44,11 @@ const DATA: &str = r##"["a.json", "{\"b\": 1, \"a\": [true, null, \"x\"]}", "{\"
 ["a.toml", "a = inf", "liquid: Cannot fit number\n"]
 ["a.toml", "a = 1\na = 2", "line 2, column 1: duplicate key"]
 ["a.toml", "a = \nb = 1", "line 1, column 5: invalid value, expected a string, number, boolean, date-time, array or inline table"]
-["a.csv", "a,b\n1,x\n2,\"y, z\"\n", "{\"rows\":[{\"a\":\"1\",\"b\":\"x\"},{\"a\":\"2\",\"b\":\"y, z\"}]}"]
+["a.csv", "a,b\n1,x\n2,\"y, z\"\n", "{\"rows\":[{\"a\":1,\"b\":\"x\"},{\"a\":2,\"b\":\"y, z\"}]}"]
 ["a.csv", "\ufeffa;b\r\n1;2\r\n", "{\"rows\":[{\"a;b\":\"1;2\"}]}"]
 ["a.csv", "a,b\n", "{\"rows\":[]}"]
 ["a.csv", "", "{\"rows\":[]}"]
-["a.csv", "a,a\n1,2\n", "{\"rows\":[{\"a\":\"2\"}]}"]
+["a.csv", "a,a\n1,2\n", "{\"rows\":[{\"a\":2}]}"]
 ["a.csv", "a,b\n\"x\ny\",1\n\n2\n", "line 5, column 1: the row has 1 fields, and the first row has 2"]"##;
 
 #[test]
@@ -66,8 +68,8 @@ fn a_format_is_the_ending_of_a_name(_rt: HostRuntime) -> Result<(), Fail> {
 #[test]
 fn the_later_object_is_above(rt: HostRuntime) -> Result<(), Fail> {
     let alloc = rt.alloc();
-    let below = object_of(alloc, r#"{"a": {"x": 1}, "b": 2}"#)?;
-    let above = object_of(alloc, r#"{"a": {"y": 3}, "c": 4}"#)?;
+    let below = object_of(alloc, r#"{"a": {"x": 1}, "b": 2}"#).ok_or("no object")?;
+    let above = object_of(alloc, r#"{"a": {"y": 3}, "c": 4}"#).ok_or("no object")?;
     let both = Value::from(merge(below, above)?);
     let text = json_of(alloc, &both).ok_or("no text")?;
     same(text.as_str(), r#"{"a":{"y":3},"b":2,"c":4}"#)
@@ -76,7 +78,7 @@ fn the_later_object_is_above(rt: HostRuntime) -> Result<(), Fail> {
 #[test]
 fn an_object_is_put_under_a_name(rt: HostRuntime) -> Result<(), Fail> {
     let alloc = rt.alloc();
-    let object = object_of(alloc, r#"{"a": 1}"#)?;
+    let object = object_of(alloc, r#"{"a": 1}"#).ok_or("no object")?;
     let outer = Value::from(under(alloc, "site", object)?);
     let text = json_of(alloc, &outer).ok_or("no text")?;
     same(text.as_str(), r#"{"site":{"a":1}}"#)

@@ -6,11 +6,11 @@ use rows::{Line, rows_hold};
 use std::alloc::Global;
 use std::test::Fail;
 
-/// Returns the object of a text of JSON.
-pub fn object_of(alloc: Global, json: &str) -> Result<Object, Fail> {
+/// Returns the object of a text of JSON, or `None` if it is not one.
+pub fn object_of(alloc: Global, json: &str) -> Option<Object> {
     match object_from_str(alloc, json) {
-        Ok(Ok(object)) => Ok(object),
-        _ => Err(Fail::new(json)),
+        Ok(Ok(object)) => Some(object),
+        _ => None,
     }
 }
 
@@ -20,7 +20,7 @@ pub fn json_of(alloc: Global, value: &Value) -> Option<String> {
 }
 
 fn set_text(alloc: Global, row: &Line) -> Option<String> {
-    let object = object_of(alloc, row.text(0)?).ok()?;
+    let object = object_of(alloc, row.text(0)?)?;
     let text = match set_member(alloc, object, row.text(1)?) {
         Ok(changed) => json_of(alloc, &Value::from(changed)),
         Err(fault) => fault.to_string(alloc).ok(),
@@ -37,7 +37,7 @@ fn is_set(alloc: Global, row: &Line) -> bool {
 
 // The object, the assignment, and the object after it or the fault.
 const SET: &str = r#"["{}", "a=x", "{\"a\":\"x\"}"]
-["{\"a\": 1}", "a=2", "{\"a\":\"2\"}"]
+["{\"a\": 1}", "a=two", "{\"a\":\"two\"}"]
 ["{}", "a.b.c=x=y", "{\"a\":{\"b\":{\"c\":\"x=y\"}}}"]
 ["{\"a\": {\"b\": 1, \"d\": 2}}", "a.b=x", "{\"a\":{\"b\":\"x\",\"d\":2}}"]
 ["{}", "a=", "{\"a\":\"\"}"]
