@@ -49,7 +49,7 @@ const DATA: &str =
 ["a.csv", "a,b\n", "{\"rows\":[]}"]
 ["a.csv", "", "{\"rows\":[]}"]
 ["a.csv", "a,a\n1,2\n", "{\"rows\":[{\"a\":2}]}"]
-["a.csv", "a,b\n\"x\ny\",1\n\n2\n", "line 5, column 1: the row has 1 fields, and the first row has 2"]"##;
+["a.csv", "a,b\n\"x\ny\",1\n2\n", "line 4, column 1: the row has 1 fields, and the first row has 2"]"##;
 
 #[test]
 fn data_is_read(rt: HostRuntime) -> Result<(), Fail> {
