@@ -2,7 +2,6 @@
 ghost use Rattle.std.specs.Prelude.{◌≢◌};
 
 use page_data::{DataFault, SetFault};
-use page_options::WordFault;
 use page_site::SiteFault;
 use std::alloc::{AllocError, AllocFailed};
 
@@ -14,10 +13,7 @@ pub enum CommandFault {
     Memory,
     /// The words are not a command.
     #[error("liquid page: {0}\ntry: liquid page --help\n")]
-    Words(WordFault),
-    /// No template is named.
-    #[error("liquid page: no template\ntry: liquid page --help\n")]
-    NoTemplate,
+    Words(String),
     /// Several pages are for one output.
     #[error("liquid page: several pages need a folder, as in -o FOLDER\ntry: liquid page --help\n")]
     NoFolder,
@@ -56,12 +52,6 @@ impl From<SiteFault> for CommandFault {
     }
 }
 
-impl From<WordFault> for CommandFault {
-    fn from(fault: WordFault) -> CommandFault {
-        CommandFault::Words(fault)
-    }
-}
-
 impl CommandFault {
     /// Returns the exit status for the fault: 2 if the words are not a command, 3 if a file is not what it should be, and
     /// otherwise 1.
@@ -69,11 +59,7 @@ impl CommandFault {
         ensures { result ≢ 0 }
     {
         match self {
-            CommandFault::Words(WordFault::Memory) => 1,
-            CommandFault::Words(_)
-            | CommandFault::NoTemplate
-            | CommandFault::NoFolder
-            | CommandFault::BadSet(..) => 2,
+            CommandFault::Words(_) | CommandFault::NoFolder | CommandFault::BadSet(..) => 2,
             CommandFault::Site(fault) => fault.status(),
             CommandFault::NoFormat(_) | CommandFault::BadData(..) => 3,
             CommandFault::Memory | CommandFault::SameTarget(_) => 1,

@@ -5,18 +5,18 @@ ghost use Rattle.liquid_value.specs.meaning.View.{object_view};
 ghost use Rattle.page_site.specs.meaning.Faults.{partial_text};
 ghost use Rattle.page_site.specs.meaning.Items.{IsMade, WritesItems, item_of};
 
-use crate::data::{DataFile, data_file, read_names};
 use crate::engine::{Explain, PageEngine};
 use crate::fault::CommandFault;
+use crate::help::HELP;
+use crate::names::read_names;
+use crate::settings::{Settings, read_words};
 use crate::sources::SharedSource;
 use liquid_files::Folder;
-use liquid_pages::{PageFrame, PageOptions};
 use liquid_parser::{Language, ParseBlock, ParseTag};
 use liquid_partials::InMemorySource;
 use liquid_plugins::{Discreet, ParseFilter};
 use liquid_runtime::Fresh;
 use liquid_value::SharedObject;
-use page_options::{PAGE, Settings, page_help, read_words};
 use page_site::{
     Engine, Item, Partials, Site, add_items, find_clash, make, read_partials, report, write_items,
 };
@@ -83,14 +83,10 @@ where
     W: Write,
     E: Write,
 {
-    let mut texts = Vec::new(alloc);
-    for word in words {
-        texts.push(word.as_str())?;
+    if asks_for_help(words) {
+        return Ok(print(HELP.as_bytes(), out));
     }
-    let settings = read_words(alloc, &PAGE, texts.as_slice())?;
-    if settings.help {
-        return Ok(print(page_help(alloc)?.as_bytes(), out));
-    }
+    let settings = read_words(alloc, words)?;
     let names = names_of(alloc, files, &settings)?;
     let partials = match settings.partials {
         Some(folder) => read_partials(alloc, files, folder)?,
@@ -99,7 +95,7 @@ where
     let mut engine: PageEngine<V, F, T, B, X> = PageEngine {
         language,
         partials: SharedSource::new(alloc, source_of(alloc, &partials)?)?,
-        options: options_of(&settings),
+        options: settings.options,
         explain,
         register: PhantomData,
     };
@@ -109,9 +105,8 @@ where
             let items = plan(alloc, files, &settings, output)?;
             Ok(write_items(alloc, &site, &mut engine, files, items.as_slice(), err))
         }
-        None => match settings.files.as_slice() {
+        None => match settings.templates.as_slice() {
             [template] => print_page(alloc, &site, &mut engine, files, *template, out, err),
-            [] => Err(CommandFault::NoTemplate),
             _ => Err(CommandFault::NoFolder),
         },
     }
@@ -125,35 +120,25 @@ fn names_of<D: Folder>(
 ) -> Result<SharedObject, CommandFault>
     ensures same { D.known files.new ≡ D.known files.old }
 {
-    let mut data: Vec<DataFile<'_>> = Vec::new(alloc);
-    for word in settings.data.as_slice() {
-        data.push(data_file(*word))?;
-    }
-    let names = read_names(alloc, files, data.as_slice(), settings.set.as_slice())?;
+    let names = read_names(
+        alloc,
+        files,
+        settings.data.as_slice(),
+        settings.sets.as_slice(),
+    )?;
     Ok(SharedObject::shared(alloc, names)?)
 }
 
-/// Returns the options of the pages.
-fn options_of(settings: &Settings<'_>) -> PageOptions {
-    PageOptions {
-        frame: if settings.sandboxed {
-            PageFrame::Isolated
-        } else {
-            PageFrame::Open
-        },
-        decimals: true,
-        lenient: settings.lenient,
-        max_turns: limit_of(settings.turns),
-        max_bytes: limit_of(settings.bytes),
+/// Returns whether the words ask for help.
+fn asks_for_help(words: &[String]) -> bool {
+    for word in words {
+        match word.as_str() {
+            "-h" | "--help" => return true,
+            "--" => return false,
+            _ => {}
+        }
     }
-}
-
-/// Returns a limit. 0 is none.
-fn limit_of(number: Option<u64>) -> Option<u64> {
-    match number {
-        Some(0) | None => None,
-        Some(number) => Some(number),
-    }
+    false
 }
 
 /// Writes bytes to an output, and returns the status.
@@ -188,11 +173,8 @@ fn plan<D: Folder>(
         Some(_) => String::from_str(alloc, output)?,
         None => format!(in alloc; "{output}/")?,
     };
-    if settings.files.is_empty() {
-        return Err(CommandFault::NoTemplate);
-    }
     let mut items = Vec::new(alloc);
-    for word in settings.files.as_slice() {
+    for word in settings.templates.as_slice() {
         add_items(alloc, files, folder.as_str(), *word, &mut items)?;
     }
     if let [item] = items.as_mut_slice() {

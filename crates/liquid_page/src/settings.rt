@@ -1,6 +1,6 @@
 //! The words of the command.
-use crate::data::DataFile;
 use crate::fault::CommandFault;
+use crate::names::{DataFile, data_file};
 use liquid_pages::{PageFrame, PageOptions};
 use std::alloc::Global;
 use std::slice::Iter;
@@ -85,7 +85,7 @@ pub fn read_words<'w>(alloc: Global, words: &'w [String]) -> Result<Settings<'w>
         }
     }
     if settings.templates.is_empty() {
-        return Err(wrong(alloc, "there is no template", ""));
+        return Err(wrong(alloc, "no template", ""));
     }
     Ok(settings)
 }
@@ -170,20 +170,6 @@ fn put<'w>(
     Ok(())
 }
 
-/// Returns the file of data that a value names, as `PATH` or `NAME=PATH`.
-fn data_file(value: &str) -> DataFile<'_> {
-    match value.split_once("=") {
-        Some((name, path)) => DataFile {
-            name: Some(name),
-            path,
-        },
-        None => DataFile {
-            name: None,
-            path: value,
-        },
-    }
-}
-
 fn once<'w>(
     alloc: Global,
     place: &mut Option<&'w str>,
@@ -248,4 +234,3 @@ fn nearest(alloc: Global, word: &str) -> Option<&'static str> {
     }
     found
 }
-

@@ -2,7 +2,7 @@
 ghost use Rattle.std.specs.Prelude.{◌≡◌, map, option_map, IfOk};
 ghost use Rattle.liquid_value.specs.meaning.Tree.{no_members};
 ghost use Rattle.liquid_value.specs.meaning.View.{members_view};
-ghost use Rattle.liquid_page.specs.meaning.Data.{Gives, IsNames, ReadOver, SetOver, data_of, stem, under};
+ghost use Rattle.liquid_page.specs.meaning.Names.{Gives, IsNames, ReadOver, SetOver, file_of, stem, under};
 
 use crate::fault::CommandFault;
 use liquid_files::Folder;
@@ -38,14 +38,14 @@ pub fn data_file(word: &str) -> DataFile<'_> {
 pub fn read_names<'w, F: Folder>(
     alloc: Global,
     files: &mut F,
-    data: &[DataFile<'w>],
+    given: &[DataFile<'w>],
     sets: &[&'w str],
 ) -> Result<Object, CommandFault>
-    ensures names { IfOk result (λ names. IsNames (F.known files.old) (map data_of data.now) (map (λ s. s.now) sets.now) (members_view names.entries)) }
+    ensures names { IfOk result (λ names. IsNames (F.known files.old) (map file_of given.now) (map (λ s. s.now) sets.now) (members_view names.entries)) }
     ensures same { F.known files.new ≡ F.known files.old }
     ensures listed { F.listed files.new ≡ F.listed files.old }
 {
-    let names = read_over(alloc, files, data, Object::new(alloc))?;
+    let names = read_over(alloc, files, given, Object::new(alloc))?;
     set_over(alloc, sets, names)
 }
 
@@ -53,14 +53,14 @@ pub fn read_names<'w, F: Folder>(
 fn read_over<F: Folder>(
     alloc: Global,
     files: &mut F,
-    data: &[DataFile<'_>],
+    given: &[DataFile<'_>],
     names: Object,
 ) -> Result<Object, CommandFault>
-    ensures names { IfOk result (λ after. ReadOver (F.known files.old) (map data_of data.now) (members_view names.entries) (members_view after.entries)) }
+    ensures names { IfOk result (λ after. ReadOver (F.known files.old) (map file_of given.now) (members_view names.entries) (members_view after.entries)) }
     ensures same { F.known files.new ≡ F.known files.old }
     ensures listed { F.listed files.new ≡ F.listed files.old }
 {
-    match data.split_first() {
+    match given.split_first() {
         None => Ok(names),
         Some((first, rest)) => {
             let members = read_one(alloc, files, *first)?;
@@ -74,19 +74,19 @@ fn read_over<F: Folder>(
 fn read_one<F: Folder>(
     alloc: Global,
     files: &mut F,
-    data: DataFile<'_>,
+    file: DataFile<'_>,
 ) -> Result<Object, CommandFault>
-    ensures gives { IfOk result (λ members. Gives (F.known files.old) (data_of data.entry) (members_view members.entries)) }
+    ensures gives { IfOk result (λ members. Gives (F.known files.old) (file_of file.entry) (members_view members.entries)) }
     ensures same { F.known files.new ≡ F.known files.old }
     ensures listed { F.listed files.new ≡ F.listed files.old }
 {
-    let path = data.path;
+    let path = file.path;
     let Some(format) = Format::of_path(path) else {
         return Err(CommandFault::NoFormat(String::from_str(alloc, path)?));
     };
     let text = read_text(alloc, files, path)?;
     match read_data(alloc, format, stem(path), text.as_str()) {
-        Ok(members) => Ok(under(alloc, data.name, members)?),
+        Ok(members) => Ok(under(alloc, file.name, members)?),
         Err(fault) => Err(CommandFault::BadData(String::from_str(alloc, path)?, fault)),
     }
 }
