@@ -1,8 +1,6 @@
 //! The command `liquid`, which renders a template file.
 #![tactic(auto)]
 
-mod page;
-
 use liquid_core::Error;
 use liquid_program::fault::Fault;
 use liquid_program::help;
@@ -51,11 +49,6 @@ fn serve(rt: &HostRuntime) -> Result<u8, Fault<'static>> {
     let mut err = io::writer(&errors);
     let is_watched = errors.is_terminal();
     let mut files = Machine { rt, is_watched };
-    if let Some((first, rest)) = words.as_slice().split_first() {
-        if first.as_str() == "page" {
-            return Ok(page::run(rt.alloc(), rest, &mut files, &mut out, &mut err));
-        }
-    }
     Ok(run(rt.alloc(), words.as_slice(), &mut files, &mut out, &mut err))
 }
 

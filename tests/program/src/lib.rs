@@ -12,7 +12,6 @@ mod lenient;
 mod limits;
 mod long_commands;
 mod notes;
-mod page;
 mod partials;
 mod places;
 mod runs;

@@ -54,7 +54,7 @@ fn add_listed(alloc: Global, files: &mut InMemoryFolder, file: &Json) -> bool {
 }
 
 /// Adds the files of a row. Returns `false` if one of them could not be added.
-pub(crate) fn add_all(alloc: Global, files: &mut InMemoryFolder, list: &Vec<Json>) -> bool {
+fn add_all(alloc: Global, files: &mut InMemoryFolder, list: &Vec<Json>) -> bool {
     for file in list {
         if !add_listed(alloc, files, file) {
             return false;
