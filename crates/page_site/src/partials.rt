@@ -3,9 +3,8 @@ ghost use Rattle.std.specs.Prelude.{◌≡◌, ◌∷◌, ◌++◌, ℕ, Bool, L
 ghost use Rattle.std.specs.Str.{bytes_eq};
 ghost use Rattle.liquid_files.specs.meaning.Files.{also, known_in, listed_in, listing, reading};
 ghost use Rattle.page_site.specs.meaning.Faults.{partial_text};
-ghost use Rattle.page_site.specs.meaning.Items.{MayBe, file_in, page_name};
+ghost use Rattle.page_site.specs.meaning.Items.{IsBlank, MayBe, file_in, page_name};
 ghost use Rattle.page_site.specs.meaning.Partials.{partial_in};
-ghost use Rattle.page_site.specs.steps.Making.{IsBlank};
 
 use crate::fault::{PageFault, SiteFault};
 use crate::items::page_name;

@@ -93,6 +93,14 @@ abbrev pub MayFail : Option (Option (List ℕ)) → Type 0
 MayFail None = ⊤
 MayFail (Some file) = file ≡ None
 
+-- a file can't be read as text, or memory ran out
+abbrev pub IsBlank : SiteFault → Option (Option (List ℕ)) → Type 0
+IsBlank (Unreadable path) known = MayFail known
+IsBlank (NoText path) known = (bytes : List ℕ) × MayBe known bytes × ¬ (IsUtf8 bytes)
+IsBlank (Page fault) known = IfSome (trouble_of fault) (λ trouble. ⊥)
+IsBlank (Unwritable path) known = ⊥
+IsBlank (OwnFile path) known = ⊥
+
 module _ (answers : Answers) (partials : List ℕ → Option (List ℕ)) (names : Members) where
   -- what a file becomes: its page, or a copy
   abbrev pub Becomes : Bool → List ℕ → List ℕ → Type 0

@@ -1,11 +1,11 @@
 -- Why a file is not read, and why a text has no page.
-use Rattle.std.specs.Prelude.{ℕ, List, Option, IfSome, IsUtf8}
+use Rattle.std.specs.Prelude.{ℕ, List, Option, IfSome}
 use Rattle.liquid_value.specs.meaning.Tree.{Members}
 use Rattle.page_site.specs.declared.fault.SiteFault.{SiteFault}
 use Rattle.page_site.specs.declared.fault.SiteFault.TheVariants.{Unreadable, NoText, Page, Unwritable, OwnFile}
 use Rattle.page_site.specs.meaning.Answers.{Answers}
 use Rattle.page_site.specs.meaning.Faults.{trouble_of}
-use Rattle.page_site.specs.meaning.Items.{MayBe, MayFail}
+use Rattle.page_site.specs.meaning.Items.{MayFail}
 use Rattle.page_site.specs.meaning.Layouts.{HasTrouble}
 
 -- a file can't be read, or memory ran out
@@ -23,11 +23,3 @@ IsTroubled answers partials names text (Unreadable path) = ⊥
 IsTroubled answers partials names text (NoText path) = ⊥
 IsTroubled answers partials names text (Unwritable path) = ⊥
 IsTroubled answers partials names text (OwnFile path) = ⊥
-
--- a file can't be read as text, or memory ran out
-abbrev pub IsBlank : SiteFault → Option (Option (List ℕ)) → Type 0
-IsBlank (Unreadable path) known = MayFail known
-IsBlank (NoText path) known = (bytes : List ℕ) × MayBe known bytes × ¬ (IsUtf8 bytes)
-IsBlank (Page fault) known = IfSome (trouble_of fault) (λ trouble. ⊥)
-IsBlank (Unwritable path) known = ⊥
-IsBlank (OwnFile path) known = ⊥
