@@ -71,8 +71,10 @@ fn names_of(alloc: Global, path: &str) -> Result<Vec<&str>, AllocError>
 /// Sets a text at a path of names.
 #[cycle(set)]
 fn set_at(alloc: Global, object: Object, names: &[&str], words: &str) -> Result<Object, SetFault>
-    ensures set { IfOk result (λ changed. set_at (map (λ name. name.now) names.now) words.now (members_view object.entries) ≡ Some (members_view changed.entries)) }
-    ensures refused { IfErr result (λ fault. fault ≢ SetFault.Memory → set_at (map (λ name. name.now) names.now) words.now (members_view object.entries) ≡ None) }
+    ensures set { IfOk result (λ changed.
+        set_at (map (λ name. name.now) names.now) words.now (members_view object.entries) ≡ Some (members_view changed.entries)) }
+    ensures refused { IfErr result (λ fault. fault ≢ SetFault.Memory →
+        set_at (map (λ name. name.now) names.now) words.now (members_view object.entries) ≡ None) }
 {
     match names.split_first() {
         Some((name, rest)) => set_from(alloc, object, name, rest, words),
@@ -89,8 +91,10 @@ fn set_from(
     rest: &[&str],
     words: &str,
 ) -> Result<Object, SetFault>
-    ensures set { IfOk result (λ changed. set_at (name.now ∷ map (λ name. name.now) rest.now) words.now (members_view object.entries) ≡ Some (members_view changed.entries)) }
-    ensures refused { IfErr result (λ fault. fault ≢ SetFault.Memory → set_at (name.now ∷ map (λ name. name.now) rest.now) words.now (members_view object.entries) ≡ None) }
+    ensures set { IfOk result (λ changed.
+        set_at (name.now ∷ map (λ name. name.now) rest.now) words.now (members_view object.entries) ≡ Some (members_view changed.entries)) }
+    ensures refused { IfErr result (λ fault. fault ≢ SetFault.Memory →
+        set_at (name.now ∷ map (λ name. name.now) rest.now) words.now (members_view object.entries) ≡ None) }
 {
     if rest.is_empty() {
         return put_text(alloc, object, name, words);
@@ -102,16 +106,20 @@ fn set_from(
 }
 
 fn put_text(alloc: Global, object: Object, name: &str, words: &str) -> Result<Object, SetFault>
-    ensures put { IfOk result (λ changed. put_named name.now (scalar (text words.now)) (members_view object.entries) ≡ Some (members_view changed.entries)) }
-    ensures refused { IfErr result (λ fault. fault ≢ SetFault.Memory → put_named name.now (scalar (text words.now)) (members_view object.entries) ≡ None) }
+    ensures put { IfOk result (λ changed.
+        put_named name.now (scalar (text words.now)) (members_view object.entries) ≡ Some (members_view changed.entries)) }
+    ensures refused { IfErr result (λ fault. fault ≢ SetFault.Memory →
+        put_named name.now (scalar (text words.now)) (members_view object.entries) ≡ None) }
 {
     let words = String::from_str(alloc, words)?;
     put_named(alloc, object, name, Value::Scalar(Scalar::Str(words)))
 }
 
 fn put_object(alloc: Global, outer: Object, name: &str, inner: Object) -> Result<Object, SetFault>
-    ensures put { IfOk result (λ changed. put_named name.now (object (members_view inner.entries)) (members_view outer.entries) ≡ Some (members_view changed.entries)) }
-    ensures refused { IfErr result (λ fault. fault ≢ SetFault.Memory → put_named name.now (object (members_view inner.entries)) (members_view outer.entries) ≡ None) }
+    ensures put { IfOk result (λ changed.
+        put_named name.now (object (members_view inner.entries)) (members_view outer.entries) ≡ Some (members_view changed.entries)) }
+    ensures refused { IfErr result (λ fault. fault ≢ SetFault.Memory →
+        put_named name.now (object (members_view inner.entries)) (members_view outer.entries) ≡ None) }
 {
     let value = Value::Object(SharedObject::shared(alloc, inner)?);
     put_named(alloc, outer, name, value)
@@ -119,8 +127,10 @@ fn put_object(alloc: Global, outer: Object, name: &str, inner: Object) -> Result
 
 /// Puts a value at a name that is not empty.
 fn put_named(alloc: Global, object: Object, name: &str, value: Value) -> Result<Object, SetFault>
-    ensures put { IfOk result (λ changed. put_named name.now (view value) (members_view object.entries) ≡ Some (members_view changed.entries)) }
-    ensures refused { IfErr result (λ fault. fault ≢ SetFault.Memory → put_named name.now (view value) (members_view object.entries) ≡ None) }
+    ensures put { IfOk result (λ changed.
+        put_named name.now (view value) (members_view object.entries) ≡ Some (members_view changed.entries)) }
+    ensures refused { IfErr result (λ fault. fault ≢ SetFault.Memory →
+        put_named name.now (view value) (members_view object.entries) ≡ None) }
 {
     if name.is_empty() {
         return Err(SetFault::NoName);
@@ -132,9 +142,11 @@ fn put_named(alloc: Global, object: Object, name: &str, value: Value) -> Result<
 
 /// Takes out the object at a name, or a new one if there is no value, and leaves nil there.
 fn take_object(alloc: Global, object: &mut Object, name: &str) -> Result<Object, SetFault>
-    ensures found { IfOk result (λ inner. object_found (get_member name.now (members_view object.old.entries)) ≡ Some (members_view inner.entries)) }
+    ensures found { IfOk result (λ inner.
+        object_found (get_member name.now (members_view object.old.entries)) ≡ Some (members_view inner.entries)) }
     ensures left { OnOk result (members_view object.new.entries ≡ put_member name.now nil (members_view object.old.entries)) }
-    ensures refused { IfErr result (λ fault. fault ≢ SetFault.Memory → object_found (get_member name.now (members_view object.old.entries)) ≡ None) }
+    ensures refused { IfErr result (λ fault. fault ≢ SetFault.Memory →
+        object_found (get_member name.now (members_view object.old.entries)) ≡ None) }
 {
     match replace_with_nil(alloc, object, name)? {
         None => Ok(Object::new(alloc)),

@@ -102,7 +102,8 @@ fn put_field(
     name: Option<&str>,
     field: Option<&str>,
 ) -> Result<(), AllocError>
-    ensures { OnOk result (members_view object.new.entries ≡ put_field (option_map (λ n. n.now) name.entry) (option_map (λ f. f.now) field.entry) (members_view object.old.entries)) }
+    ensures { OnOk result (members_view object.new.entries
+        ≡ put_field (option_map (λ n. n.now) name.entry) (option_map (λ f. f.now) field.entry) (members_view object.old.entries)) }
 {
     match (name, field) {
         (Some(name), Some(field)) => {
