@@ -3,6 +3,7 @@
 
 pub mod block_plugins;
 pub mod blocks;
+mod calls;
 mod capture;
 mod case;
 mod conditionals;
@@ -23,4 +24,4 @@ pub use languages::language;
 pub use laws::{outsides_agree_on_the_standard, standard_is_isolated};
 pub use pages::render_page;
 pub use tag_plugins::StdTags;
-pub use tags::StdTag;
+pub use tags::{StdTag, StdTagProgress};

@@ -5,9 +5,10 @@ use Rattle.liquid_error.specs.meaning.Refusal.{Refusal, ok_then}
 use Rattle.liquid_error.specs.declared.place.Place.{Place}
 use Rattle.liquid_plugins.specs.meaning.Expression.{ExpressionShape}
 use Rattle.liquid_parser.specs.meaning.Cursors.{expect_str}
-use Rattle.liquid_parser.specs.meaning.Handed.{Token, Tokens, expect_value, first_of, or_unexpected, unexpected}
+use Rattle.liquid_parser.specs.meaning.Handed.{Token, Tokens, expect_value, first_of, or_unexpected}
 use Rattle.liquid_parser.proofs.StepLemmas.{then_refused}
 use Rattle.liquid_tags.specs.meaning.Asked.{next_as}
+use Rattle.liquid_tags.specs.meaning.CallsGiven.{comma}
 use Rattle.std_loops.specs.declared.options.LoopBlock.{LoopBlock}
 use Rattle.std_loops.specs.declared.options.LoopOption.{LoopOption}
 use Rattle.std_loops.specs.declared.options.LoopOption.TheVariants.{Offset, Limit, Reversed, Cols}
@@ -51,7 +52,7 @@ module _ (block : LoopBlock) where
   -- what follows the token that names an option
   abbrev after_name : OptionsShape → Token × Tokens → Result OptionsShape Refusal
   after_name o given = elim (option_named block o given.0.text) as (λ _. Result OptionsShape Refusal) [
-    | None ↦ Err (unexpected given.0)
+    | None ↦ ok_then (comma given.0) (λ u. options_from block o given.1.left)
     | Some option ↦ elim option as (λ _. Result OptionsShape Refusal) [
       | Offset ↦ from_colon block Offset o given.0.following given.1.left
       | Limit ↦ from_colon block Limit o given.0.following given.1.left
@@ -74,7 +75,7 @@ module _ (block : LoopBlock) where
 
   abbrev chosen : OptionsShape → Token × Tokens → Option LoopOption → Result OptionsShape Refusal
   chosen o given named = elim named as (λ _. Result OptionsShape Refusal) [
-    | None ↦ Err (unexpected given.0)
+    | None ↦ ok_then (comma given.0) (λ u. options_from block o given.1.left)
     | Some option ↦ elim option as (λ _. Result OptionsShape Refusal) [
       | Offset ↦ from_colon block Offset o given.0.following given.1.left
       | Limit ↦ from_colon block Limit o given.0.following given.1.left
@@ -134,13 +135,20 @@ module _ (block : LoopBlock) where
       subst (λ q. IfSome e (λ r. q ≡ Err r)) (sym (so_far ∙ option_on o ts given option first is))
       (then_refused e (option_given option o given.1) going_on refused)
 
-  -- a token that names no option is an error
-  pub name_refused : (o : OptionsShape) (ts : List Token) (given : Token × Tokens) (e : Option Refusal)
+  -- a token that names no option is a comma, or is refused
+  pub comma_passed : (o : OptionsShape) (ts : List Token) (given : Token × Tokens) (u : Unit {0}) (meant : Result OptionsShape Refusal)
+      → meant ≡ options_from block o ts → first_of ts ≡ Some given → option_named block o given.0.text ≡ None
+      → comma given.0 ≡ Ok u → meant ≡ options_from block o given.1.left
+  comma_passed o ts given u meant so_far first is is_comma =
+      so_far ∙ named o ts given None first is ∙ ap (λ r. ok_then r (λ w. options_from block o given.1.left)) is_comma
+
+  pub comma_refused : (o : OptionsShape) (ts : List Token) (given : Token × Tokens) (e : Option Refusal)
       (meant : Result OptionsShape Refusal)
       → meant ≡ options_from block o ts → first_of ts ≡ Some given → option_named block o given.0.text ≡ None
-      → IfSome e (λ r. r ≡ unexpected given.0) → IfSome e (λ r. meant ≡ Err r)
-  name_refused o ts given None meant so_far first is told = told
-  name_refused o ts given (Some r) meant so_far first is told = so_far ∙ named o ts given None first is ∙ ap (λ q. Err q) (sym told)
+      → IfSome e (λ r. comma given.0 ≡ Err r) → IfSome e (λ r. meant ≡ Err r)
+  comma_refused o ts given e meant so_far first is refused =
+      subst (λ q. IfSome e (λ r. q ≡ Err r)) (sym (so_far ∙ named o ts given None first is))
+      (then_refused e (comma given.0) (λ u. options_from block o given.1.left) refused)
 
   -- where no token is left the options that are read are all
   pub all_read : (o : OptionsShape) (ts : List Token) (meant : Result OptionsShape Refusal) → meant ≡ options_from block o ts

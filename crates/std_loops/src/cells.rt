@@ -4,7 +4,7 @@ ghost use Rattle.liquid_scalar.specs.meaning.Scalar.{boolean, integer};
 ghost use Rattle.liquid_value.specs.meaning.Members.{put_member};
 ghost use Rattle.liquid_value.specs.meaning.Tree.{scalar};
 ghost use Rattle.liquid_value.specs.meaning.View.{view as tree_of, members_view};
-ghost use Rattle.liquid_tags.specs.meaning.Loops.{forloop_members};
+ghost use Rattle.liquid_tags.specs.meaning.Loops.{forloop, forloop_members};
 ghost use Rattle.std_loops.specs.meaning.Cells.{begins, cell_members, column_at, next_cell, next_row, opens_cell, row_at, tablerowloop};
 ghost use Rattle.std_loops.specs.meaning.Cells.{text_between};
 
@@ -72,6 +72,14 @@ fn put_cell(
     put_number(alloc, members, "col0", column.saturating_sub(1))?;
     put(alloc, members, "col_first", Value::scalar(column == 1))?;
     put(alloc, members, "col_last", Value::scalar(column == columns))
+}
+
+/// Returns the object `forloop` of the item at a place, of that many. Places count from 0.
+pub fn forloop(alloc: Global, place: u64, size: u64) -> Result<Value, AllocError>
+    ensures { IfOk result (λ v. tree_of v ≡ forloop place size) }
+{
+    let members = loop_members(alloc, place, size)?;
+    Ok(Value::Object(SharedObject::shared(alloc, members)?))
 }
 
 /// Returns the members of `forloop` of the item at a place.

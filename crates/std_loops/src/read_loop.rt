@@ -6,6 +6,7 @@ ghost use Rattle.liquid_parser.specs.meaning.Handed.{Token, Tokens};
 ghost use Rattle.liquid_parser.specs.meaning.Plugins.{AreTokens};
 ghost use Rattle.liquid_plugins.specs.meaning.ExpressionOf.{expression_of};
 ghost use Rattle.liquid_tags.specs.meaning.Asked.{next_as};
+ghost use Rattle.liquid_tags.specs.meaning.CallsGiven.{comma};
 ghost use Rattle.std_loops.specs.meaning.Loops.{loop_of};
 ghost use Rattle.std_loops.specs.meaning.Options.{options_of};
 ghost use Rattle.std_loops.specs.meaning.OptionsGiven.{expect_argument, loop_given, no_options, option_named, options_from, range_named};
@@ -19,7 +20,8 @@ use liquid_tags::asked::TOKEN_EXPECTED;
 use liquid_tags::block_plugins::next_series;
 use std::alloc::{AllocError, Global};
 
-/// Reads a loop from all tokens: a name, `in`, a range or a value, and the options that the block takes.
+/// Reads a loop from all tokens: a name, `in`, a range or a value, and the options that the block takes. Commas before,
+/// between and after the options are passed over.
 ///
 /// A missing token is an `Err`, "Token expected". A token that does not fit, such as an option that is given twice, is an
 /// `Err` too, "Unexpected token".
@@ -39,7 +41,7 @@ pub fn read_loop(alloc: Global, block: LoopBlock, tokens: TagTokenIter<'_>) -> R
     })
 }
 
-/// Reads options from all tokens.
+/// Reads options from all tokens. Commas before, between and after them are passed over.
 fn read_options(alloc: Global, block: LoopBlock, tokens: TagTokenIter<'_>) -> Result<Options, Error>
     ensures { (ts : Tokens) → AreTokens tokens.entry ts → Gives options_of result (options_from block no_options ts.left) }
 {
@@ -48,10 +50,17 @@ fn read_options(alloc: Global, block: LoopBlock, tokens: TagTokenIter<'_>) -> Re
     'options: while let Some(token) = tokens.next() {
         match option_named(block, &options, token.as_str()) {
             Some(option) => take_option(alloc, option, &mut options, &mut tokens)?,
-            None => return Err(token.raise_error(alloc)),
+            None => expect_comma(alloc, token)?,
         }
     }
     Ok(options)
+}
+
+/// Checks that the token is a comma.
+fn expect_comma(alloc: Global, token: TagToken<'_>) -> Result<(), Error>
+    ensures { (t : Token) → IsToken token.entry t → Gives (λ u. u) result (comma t) }
+{
+    token.expect_str(",").into_result(alloc)
 }
 
 /// Returns the options of a loop without any.

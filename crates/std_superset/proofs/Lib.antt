@@ -3,5 +3,6 @@ pub mod TokenLemmas
 pub mod TreeLemmas
 pub mod StepLemmas
 pub mod ReadLemmas
+pub mod CallLemmas
 pub mod MeaningLemmas
 pub mod RunLemmas

@@ -30,6 +30,7 @@ use Rattle.liquid_tags.specs.meaning.Blocks as library
 use Rattle.std_marks.specs.meaning.Held.{MarksIn}
 use Rattle.liquid_std.specs.declared.blocks.StdBlockShape.{StdBlockShape}
 use Rattle.liquid_std.specs.declared.tags.StdTagShape.{StdTagShape}
+use Rattle.liquid_std.specs.declared.tags.StdTagProgressShape.TheVariants.{Turns}
 use Rattle.liquid_std.specs.declared.tags.StdTagShape.TheVariants.{Library}
 use Rattle.liquid_std.specs.meaning.Blocks.{block_nodes}
 use Rattle.liquid_std.specs.meaning.Standard.{standard}
@@ -112,7 +113,7 @@ module _ {Reg F : Type 0} (held : MarksIn Reg) (fresh : Reg) (m : FilterMeaning 
         (isolating fresh m finds) partials (isolating_tags m) n []
     tag_kept n =
         played_kept (isolating fresh m finds) (standard held fresh m images) refl partials [] (isolating_tags m) (tag_nodes held m) n
-        (Library n) (λ p. p)
+        (Library n) (λ p. Turns p)
         (λ v. refl) (λ p. refl) (λ p v. refl) (λ p text. refl)
 
     block_kept : (b : BlockShape) (parts : List (Action Reg)) → played (standard held fresh m images) partials (block_nodes held)

@@ -31,11 +31,11 @@ use Rattle.liquid_std.specs.declared.block_plugins.StdPlanShape.{StdPlanShape}
 use Rattle.liquid_std.specs.declared.tag_plugins.StdTags.{StdTags}
 use Rattle.liquid_std.specs.declared.tag_plugins.StdTags.TheVariants as tag
 use Rattle.liquid_std.specs.declared.tags.StdTagShape.{StdTagShape}
-use Rattle.liquid_std.specs.declared.tags.StdTagShape.TheVariants.{Library}
 use Rattle.liquid_std.specs.meaning.BlockPlugins as standard
 use Rattle.liquid_std.specs.meaning.Languages.{tags_and_blocks}
 use Rattle.liquid_std.specs.meaning.TagPlugins as standard_tag
 use Rattle.std_superset.specs.meaning.Images.{block_image, node_image}
+use Rattle.std_superset.proofs.CallLemmas.{tag_given_kept}
 use Rattle.std_superset.proofs.NameLemmas.{block_kept as own_block, block_named, standard_block, tag_free, tag_kept, tag_named}
 use Rattle.std_superset.proofs.TokenLemmas.{Planned, if_plan, for_plan, raw_plan, begins, divides, kind_of, made_from, node_of, plan}
 use Rattle.std_superset.proofs.TokenLemmas.{plan_image, same_value}
@@ -114,9 +114,6 @@ module _ {F : Type 0} (filters : Filters F) (source : List ℕ) (outside : ℕ) 
 
   abbrev new_block : StdBlocks → Block F StdPlanShape StdBlockShape
   new_block = standard.whole_block
-
-  abbrev library_node : TagShape F → Result (StdTagShape F) Refusal
-  library_node n = Ok (Library n)
 
   -- a block ends
   ends : (o : Opened F) (os : List (Opened F)) (ns : List (NodeShape F (TagShape F) BlockShape)) (t : token.Tag)
@@ -201,9 +198,9 @@ module _ {F : Type 0} (filters : Filters F) (source : List ℕ) (outside : ℕ) 
         sym (same_value (among (map old_open os) (ns ++ whole.0 ∷ [])) s whole.2)
             ∙ ap (λ n. among (map old_open os) (ns ++ n ∷ [])) (sym (same_value (tag_node made.0) whole.0 made.2)),
         new_read
-            ∙ ap (λ r. ok_then (ok_then (placed_at at (ok_then r library_node)) (λ n. Ok (tag_node n)))
+            ∙ ap (λ r. ok_then (ok_then (placed_at at r) (λ n. Ok (tag_node n)))
             (λ n. Ok (among (map new_open os) (map node_image ns ++ n ∷ []))))
-            (unplaced at (old_tag p filters (handed source t)) made.0 made.1)
+            (tag_given_kept p filters (handed source t) made.0 (unplaced at (old_tag p filters (handed source t)) made.0 made.1))
             ∙ ap (λ l. Ok (among (map new_open os) l)) (added ns (tag_node made.0)),
       )
 

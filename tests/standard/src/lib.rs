@@ -4,6 +4,7 @@
 
 mod both_languages;
 mod byte_pages;
+mod call_rows;
 mod desks;
 mod filters;
 mod isolated_rows;

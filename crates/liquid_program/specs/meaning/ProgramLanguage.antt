@@ -18,6 +18,7 @@ use Rattle.liquid_tags.specs.meaning.Library.{library}
 use Rattle.std_marks.specs.declared.marks.MarksShape.{MarksShape}
 use Rattle.std_marks.specs.meaning.Held.{marks_alone}
 use Rattle.std_marks.specs.meaning.Marks.{no_marks}
+use Rattle.liquid_std.specs.declared.tags.StdTagProgressShape.{StdTagProgressShape}
 use Rattle.liquid_std.specs.declared.tags.StdTagShape.{StdTagShape}
 use Rattle.liquid_std.specs.declared.blocks.StdBlockShape.{StdBlockShape}
 use Rattle.liquid_std.specs.declared.blocks.StdProgressShape.{StdProgressShape}
@@ -71,5 +72,5 @@ abbrev pub standard_language : StandardLang
 standard_language = standard_tags_and_blocks (registry_of standard_made (standard_filters None))
 
 abbrev pub standard_setting : Option (Found (CallShape StdKind) (StdTagShape (CallShape StdKind)) StdBlockShape)
-    → Setting MarksShape (CallShape StdKind) (StdTagShape (CallShape StdKind)) ℕ StdBlockShape StdProgressShape
+    → Setting MarksShape (CallShape StdKind) (StdTagShape (CallShape StdKind)) StdTagProgressShape StdBlockShape StdProgressShape
 standard_setting = standard marks_alone no_marks (calls std_sense)

@@ -41,7 +41,7 @@ then_same (Ok x) f g e = e x
 then_same (Err refusal) f g e = refl
 
 module _ {Reg : Type 0} (g : Names) (v : View Reg) where
-  series_hidden : (s : SeriesShape) → items_of (hiding g v) s ≡ items_of (hiding empty v) s
+  pub series_hidden : (s : SeriesShape) → items_of (hiding g v) s ≡ items_of (hiding empty v) s
   series_hidden (Of e) = ap (λ x. ok_then x items_in) (evaluate_hidden g v e)
   series_hidden (Between from to) =
       ap (λ x. ok_then (evaluate (hiding g v) from) (λ a. ok_then (whole_number a)

@@ -1,5 +1,5 @@
 -- Loops: what each goes over, and its rounds. Its turns are those of the loops of `liquid_tags`.
-use Rattle.std.specs.Prelude.{ℕ, ◌+◌, pos, List, [], ◌∷◌, length, string_bytes, Option, None, Some, unwrap_or, Result, Ok}
+use Rattle.std.specs.Prelude.{◌+◌, pos, List, [], ◌∷◌, length, string_bytes, Option, None, Some, unwrap_or, Result, Ok}
 use Rattle.liquid_error.specs.meaning.Refusal.{Refusal, ok_then}
 use Rattle.liquid_value.specs.meaning.Tree.{Tree}
 use Rattle.liquid_runtime.specs.meaning.View.{View}

@@ -1,32 +1,13 @@
 -- The loops that tokens make.
-use Rattle.std.specs.Prelude.{
-  ℕ,
-  List,
-  [],
-  ◌∷◌,
-  codes,
-  Bool,
-  true,
-  false,
-  not,
-  cond,
-  ◌&&◌,
-  bytes_eq,
-  is_none,
-  Option,
-  None,
-  Some,
-  Result,
-  Ok,
-  Err,
-}
+use Rattle.std.specs.Prelude.{ℕ, List, [], ◌∷◌, codes, true, false, not, cond, ◌&&◌, bytes_eq, is_none, Option, None, Some, Result, Ok, Err}
 use Rattle.liquid_error.specs.declared.place.Place.{Place}
 use Rattle.liquid_error.specs.meaning.Refusal.{Refusal, located, ok_then}
 use Rattle.liquid_parser.specs.meaning.Cursors.{expect_str}
 use Rattle.liquid_plugins.specs.meaning.Expression.{ExpressionShape}
-use Rattle.liquid_parser.specs.meaning.Handed.{Token, Tokens, expect_identifier, expect_value, or_unexpected, unexpected}
+use Rattle.liquid_parser.specs.meaning.Handed.{Token, Tokens, expect_identifier, expect_value, or_unexpected}
 use Rattle.liquid_tags.specs.meaning.Asked.{next_as, token_expected}
 use Rattle.liquid_tags.specs.meaning.BlockPlugins.{expect_series}
+use Rattle.liquid_tags.specs.meaning.CallsGiven.{comma}
 use Rattle.std_loops.specs.declared.loops.LoopShape.{LoopShape}
 use Rattle.std_loops.specs.declared.options.LoopBlock.{LoopBlock}
 use Rattle.std_loops.specs.declared.options.LoopBlock.TheVariants.{For, Tablerow}
@@ -56,12 +37,13 @@ with_option Limit e o = record o { limit = Some e }
 with_option Cols e o = record o { cols = Some e }
 with_option Reversed e o = record o { is_reversed = true }
 
--- the options that tokens add to these: `reversed`, and names with a colon and a value, each once at most
+-- the options that tokens add to these: `reversed`, and names with a colon and a value, each once at most. Commas before,
+-- between and after them are passed over
 abbrev mutual
   pub options_from : LoopBlock → OptionsShape → List Token → Result OptionsShape Refusal
   options_from block o [] = Ok o
   options_from block o (t ∷ ts) = elim (option_named block o t.text) as (λ _. Result OptionsShape Refusal) [
-    | None ↦ Err (unexpected t)
+    | None ↦ ok_then (comma t) (λ u. options_from block o ts)
     | Some option ↦ elim option as (λ _. Result OptionsShape Refusal) [
       | Offset ↦ from_colon block Offset o t.following ts
       | Limit ↦ from_colon block Limit o t.following ts

@@ -1,4 +1,4 @@
-use Rattle.std.proofs.Common.{rules, arith, ap, ◌∙◌}
+use Rattle.std.proofs.Common.{rules, arith}
 use Rattle.std.specs.Prelude.{◌≡◌, ◌<◌, ◌-◌, true, min, length, refl}
 use Rattle.liquid_tags.specs.meaning.Items.{items_left}
 use Rattle.std_loops.proofs.PickedLemmas.{backward_after}

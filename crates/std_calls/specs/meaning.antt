@@ -1,0 +1,4 @@
+pub mod Calls
+pub mod CallsGiven
+pub mod Passed
+pub mod Rounds
