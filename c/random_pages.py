@@ -20,7 +20,7 @@ TEXTS = ["a", "b", "ß雨", " ", "\n", "🌧", "\r\n", " \t", "{", "}", "%", "{ 
 FILTERS = """append:t prepend:t upcase downcase capitalize strip lstrip rstrip strip_newlines newline_to_br strip_html escape
 escape_once url_encode url_decode base64_encode base64_decode replace:tt replace_first:tt replace_last:tt remove:t
 remove_first:t remove_last:t split:t truncate:?nt truncatewords:?nt slice:n?n join:?t first last reverse concat:l map:p
-where:p?v compact:?p uniq:?p sum:?p sort:?p sort_natural:?p plus:n minus:n times:n divided_by:n?n modulo:n abs at_least:n
+where:p?v compact:?p uniq:?p sum:?p sort:?p sort_natural:?p sort_numeric:?p plus:n minus:n times:n divided_by:n?n modulo:n abs at_least:n
 at_most:n ceil floor round:?n default:v?a size json date:d""".split()
 ARGUMENTS = {
     "t": ["'a'", "', '", "''", "' '", "'雨'", "'<'", "x", "list", "7"],

@@ -215,6 +215,7 @@ posts map: "title"
 list reverse
 list sort
 list sort_natural
+numbers sort_numeric
 numbers sum
 list uniq
 posts where: "draft"

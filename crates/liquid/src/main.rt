@@ -2,9 +2,9 @@
 #![tactic(auto)]
 
 use liquid_core::Error;
+use liquid_files::Machine;
 use liquid_program::fault::Fault;
 use liquid_program::help;
-use liquid_program::machine::Machine;
 use liquid_program::run::run;
 use std::io::{BufWriter, IsTerminal};
 use std::process::ExitCode;

@@ -5,4 +5,5 @@ mod convert;
 mod number;
 mod read;
 
+pub use number::number_value;
 pub use read::object_with_decimals;

@@ -17,7 +17,7 @@ use std::alloc::Global;
 ///
 /// An integer that is not an `i64` is the error "Cannot fit number", and any other number that is not a decimal is
 /// "Fractional number".
-pub(crate) fn number_value(alloc: Global, text: &str) -> Result<Value>
+pub fn number_value(alloc: Global, text: &str) -> Result<Value>
     ensures { Gives view result (number_given text.now) }
 {
     match decimal_of_number(text.as_bytes()) {

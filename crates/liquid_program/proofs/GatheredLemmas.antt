@@ -9,7 +9,7 @@ use Rattle.liquid_error.specs.meaning.Refusal.{Refusal}
 use Rattle.liquid_value.specs.meaning.Tree.{Members}
 use Rattle.liquid_runtime.specs.meaning.Maps.{Names}
 use Rattle.liquid_partials.specs.meaning.Sources.{Texts}
-use Rattle.liquid_program.specs.meaning.Files.{Reads}
+use Rattle.liquid_files.specs.meaning.Files.{Reads}
 use Rattle.liquid_program.specs.meaning.Gathered.{
   WithText,
   WithGlobals,

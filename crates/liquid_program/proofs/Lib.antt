@@ -5,7 +5,6 @@ pub mod GatheredLemmas
 pub mod FolderLemmas
 pub mod ExecutedLemmas
 pub mod UntouchedSinks
-pub mod FilesInMemory
 pub mod RunLemmas
 pub mod ShownRuns
 pub mod PagesLemmas

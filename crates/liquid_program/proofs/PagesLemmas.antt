@@ -49,7 +49,7 @@ use Rattle.liquid_program.specs.declared.fault.Fault.TheVariants.{
   NoGlobals,
 }
 use Rattle.liquid_program.specs.meaning.Command.{option_words}
-use Rattle.liquid_program.specs.meaning.Files.{Replaces, Same}
+use Rattle.liquid_files.specs.meaning.Files.{Replaces, Same}
 use Rattle.liquid_program.specs.meaning.Gathered.{WithText, WithGlobals, WithPartials}
 use Rattle.liquid_program.specs.meaning.PagesCommand.{AskedPages}
 use Rattle.liquid_program.specs.meaning.Program.{ExecutesOne, Fails, Finishes, Printed, Renders, status_of}

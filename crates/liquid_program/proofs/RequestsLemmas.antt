@@ -27,7 +27,7 @@ use Rattle.std.proofs.Common.{
 use Rattle.std.specs.Prelude.{is_some}
 use Rattle.std.specs.Option.{option_map_or}
 use Rattle.liquid_program.specs.declared.fault.Fault.{Fault}
-use Rattle.liquid_program.specs.meaning.Files.{Request, Requests, also, reading}
+use Rattle.liquid_files.specs.meaning.Files.{Request, Requests, also, reading}
 use Rattle.liquid_program.specs.meaning.Command.{Asked, command_of}
 use Rattle.liquid_program.specs.meaning.PagesCommand.{AskedPages, pages_of}
 use Rattle.liquid_program.specs.meaning.Requests.{

@@ -63,7 +63,7 @@ use Rattle.liquid_program.specs.meaning.InMemory.{
   ShowsPlaced,
   Shows,
 }
-use Rattle.liquid_program.specs.meaning.Files.{known_in, listed_in}
+use Rattle.liquid_files.specs.meaning.Files.{known_in, listed_in}
 use Rattle.liquid_program.specs.declared.command.Options.{Options}
 use Rattle.liquid_program.proofs.GatheredLemmas.{gathers_follow}
 

@@ -21,7 +21,7 @@ use Rattle.liquid_program.specs.declared.fault.Fault.TheVariants.{
 }
 use Rattle.liquid_program.specs.declared.fault.Fault.TheVariants.{BadJson, NoGlobals}
 use Rattle.liquid_program.specs.meaning.Command.{option_words}
-use Rattle.liquid_program.specs.meaning.Files.{Request, Requests, also, listing, reading}
+use Rattle.liquid_files.specs.meaning.Files.{Request, Requests, also, listing, reading}
 use Rattle.liquid_program.specs.meaning.Gathered.{WithText, WithNames, in_order, names_into, path_in}
 use Rattle.liquid_program.specs.meaning.PagesCommand.{AskedPages}
 use Rattle.liquid_program.specs.meaning.Requests.{Follows, IsMemory, OutOfMemory, Step, Trouble, command_steps, file_steps, folder_steps}

@@ -33,7 +33,7 @@ use Rattle.liquid_value.specs.meaning.Tree.{Members}
 use Rattle.liquid_partials.specs.meaning.Sources.{Texts}
 use Rattle.liquid_pages.specs.meaning.Globals.{json_object}
 use Rattle.liquid_program.specs.meaning.Command.{option_words}
-use Rattle.liquid_program.specs.meaning.Files.{known_in, listed_in}
+use Rattle.liquid_files.specs.meaning.Files.{known_in, listed_in}
 use Rattle.liquid_program.specs.meaning.Gathered.{
   GathersGlobals,
   WithFiles,

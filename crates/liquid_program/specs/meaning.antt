@@ -1,5 +1,4 @@
 pub mod Command
-pub mod Files
 pub mod Gathered
 pub mod InMemory
 pub mod Program

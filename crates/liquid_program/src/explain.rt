@@ -1,11 +1,46 @@
 //! What `--explain` adds to a fault.
 ghost use Rattle.std.specs.Prelude.{◌≡◌};
 
-use crate::command::Paths;
+use crate::command::{Options, Paths};
 use crate::fault::Fault;
-use crate::folder::{Folder, Why};
-use std::alloc::Global;
+use crate::notes::{Sources, explain_error};
+use liquid_core::Error;
+use liquid_core::partials::InMemorySource;
+use liquid_files::{Folder, Why};
+use liquid_pages::PageLimit;
+use std::alloc::{AllocError, Global};
 use std::io::Write;
+
+/// A text that was rendered, as an error is explained by it.
+#[derive(Clone, Copy)]
+pub struct Explained<'s> {
+    /// The path of its file.
+    pub path: &'s str,
+    pub text: &'s str,
+    /// How many lines of its file come before the text.
+    pub lines_before: usize,
+    pub partials: &'s InMemorySource,
+    /// The limit that stopped it, if one did.
+    pub stopped_by: Option<PageLimit>,
+}
+
+/// Returns an error of a page with the lines that explain it, as `--explain` prints them.
+pub fn explain_page(
+    alloc: Global,
+    options: Options,
+    page: Explained<'_>,
+    error: &Error,
+) -> Result<String, AllocError> {
+    let mut sources = Sources::new(
+        page.path,
+        page.text,
+        "",
+        Some(page.partials),
+        page.stopped_by,
+    );
+    sources.lines_before = page.lines_before;
+    explain_error(alloc, options, sources, error)
+}
 
 /// How many characters of a line are written.
 const WIDTH: usize = 300;

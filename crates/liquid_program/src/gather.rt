@@ -16,7 +16,7 @@ ghost use Rattle.liquid_program.specs.meaning.Gathered.{
   WithPartials,
   WithText,
 };
-ghost use Rattle.liquid_program.specs.meaning.Files.{Reads, also, known_in, listing, reading};
+ghost use Rattle.liquid_files.specs.meaning.Files.{Reads, also, known_in, listing, reading};
 ghost use Rattle.liquid_program.specs.meaning.Requests.{
   WhereKnown,
   file_steps,
@@ -39,10 +39,10 @@ ghost use Rattle.liquid_program.specs.steps.Steps.{
 };
 
 use crate::fault::Fault;
-use crate::folder::{Folder, Unread};
 use crate::json_notes::{note_of_number, note_of_text};
 use liquid_core::partials::InMemorySource;
 use liquid_core::{Error, Object};
+use liquid_files::{Folder, Unread};
 use liquid_pages::PageFault;
 use std::alloc::{AllocError, Global};
 use std::collections::BTreeMap;

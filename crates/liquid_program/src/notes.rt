@@ -24,12 +24,13 @@ const MOST_POSITIONS: usize = 5;
 /// How many are listed before the last one, if there are more.
 const FIRST_POSITIONS: usize = 3;
 
-/// What a page is made of, as far as an error is explained by it: the path and the text of the template, the text of its
-/// globals, and the partials; and the limit that stopped it, if one did.
+/// What a page is made of, as far as an error is explained by it: the path and the text of the template, how many lines of
+/// its file come before it, the text of its globals, and the partials; and the limit that stopped it, if one did.
 #[derive(Clone, Copy)]
 pub(crate) struct Sources<'s> {
     pub(crate) path: &'s str,
     pub(crate) template: &'s str,
+    pub(crate) lines_before: usize,
     pub(crate) json: &'s str,
     pub(crate) partials: Option<&'s InMemorySource>,
     pub(crate) stopped_by: Option<PageLimit>,
@@ -46,11 +47,29 @@ impl<'s> Sources<'s> {
         Sources {
             path,
             template,
+            lines_before: 0,
             json,
             partials,
             stopped_by,
         }
     }
+}
+
+/// Returns an error as `--explain` prints it, with the lines that explain it.
+pub(crate) fn explain_error(
+    alloc: Global,
+    options: Options,
+    sources: Sources<'_>,
+    error: &Error,
+) -> Result<String, AllocError> {
+    let mut shown = format!(in alloc; "{error}")?;
+    let notes = collect_notes(alloc, options, sources, error)?;
+    for line in notes.as_str().lines() {
+        shown.push_str("  ")?;
+        shown.push_str(line)?;
+        shown.push('\n')?;
+    }
+    Ok(shown)
 }
 
 /// Returns the fault of a template with this error, explained if the options say so.
@@ -263,9 +282,13 @@ impl Notes<'_> {
         place: usize,
     ) -> Result<usize, AllocError> {
         let (line, column) = line_and_column(text.get(..place).unwrap_or(""));
-        let (kind, name) = match partial {
-            Some(name) => ("partial ", name),
-            None => ("", self.sources.path),
+        let (kind, name, line) = match partial {
+            Some(name) => ("partial ", name, line),
+            None => (
+                "",
+                self.sources.path,
+                line.saturating_add(self.sources.lines_before),
+            ),
         };
         let added = format!(in self.alloc; "{word} {kind}{name}, line {line}, column {column}\n")?;
         self.lines.push_str(added.as_str())?;

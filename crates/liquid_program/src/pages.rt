@@ -2,7 +2,7 @@
 ghost use Rattle.std.specs.Prelude.{◌≡◌, ◌≢◌, [], ◌∷◌, IfOk, map, string_bytes, ⊤};
 ghost use Rattle.liquid_template.specs.meaning.Grows.{Grows};
 ghost use Rattle.liquid_pages.specs.meaning.Globals.{json_object};
-ghost use Rattle.liquid_program.specs.meaning.Files.{also, reading};
+ghost use Rattle.liquid_files.specs.meaning.Files.{also, reading};
 ghost use Rattle.liquid_program.specs.meaning.Gathered.{WithGlobals};
 ghost use Rattle.liquid_program.specs.meaning.PagesCommand.{asked_pages};
 ghost use Rattle.liquid_program.specs.meaning.Program.{ExecutesOne, Printed};
@@ -12,7 +12,6 @@ ghost use Rattle.liquid_program.specs.meaning.Written.{WritesEach, WritesOne, Wr
 
 use crate::command::Paths;
 use crate::fault::Fault;
-use crate::folder::Folder;
 use crate::gather::{globals_of, partials_of, text_of};
 use crate::notes::{Sources, refuse};
 use crate::pages_command::Pages;
@@ -21,6 +20,7 @@ use crate::run::{settle, write_fault};
 use crate::write::{file_of_pages, land};
 use liquid_core::partials::InMemorySource;
 use liquid_core::{Error, Sink, WriterSink};
+use liquid_files::Folder;
 use std::alloc::{AllocError, Global};
 use std::io::Write;
 

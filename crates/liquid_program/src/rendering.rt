@@ -24,7 +24,7 @@ use std_marks::Marks;
 pub(crate) type PlainLanguage = Language<PlainFilters, Tags, Blocks>;
 
 /// Standard Liquid.
-pub(crate) type StandardLanguage = Language<FilterPlugin<StdKind>, StdTags, StdBlocks>;
+pub type StandardLanguage = Language<FilterPlugin<StdKind>, StdTags, StdBlocks>;
 
 /// Renders the text over these globals and these partials, with these options, and writes the result. `stopped_by` gets the
 /// limit that stopped it, if one did.
@@ -112,7 +112,8 @@ pub(crate) fn plain_language(alloc: Global) -> Result<Rc<PlainLanguage>, AllocEr
     Ok(Rc::new(alloc, language)?)
 }
 
-pub(crate) fn standard_language(alloc: Global) -> Result<Rc<StandardLanguage>, AllocError>
+/// Returns standard Liquid.
+pub fn standard_language(alloc: Global) -> Result<Rc<StandardLanguage>, AllocError>
     ensures { IfOk result (λ language. standard_meaning standard_made language.value ≡ standard_language) }
 {
     let language = liquid_std::language(alloc, filters(alloc, None)?)?;

@@ -22,7 +22,6 @@ ghost use Rattle.liquid_program.specs.meaning.Written.{Placed, Prints, WritesOth
 use crate::command::{Choices, Command, Options, Paths};
 use crate::explain::explain;
 use crate::fault::Fault;
-use crate::folder::Folder;
 use crate::gather::{globals_of, partials_of, text_of};
 use crate::notes::{Sources, refuse};
 use crate::pages::write_pages;
@@ -31,6 +30,7 @@ use crate::rendering::render_over;
 use crate::write::write_page;
 use liquid_core::partials::InMemorySource;
 use liquid_core::{Error, Sink, WriterSink};
+use liquid_files::Folder;
 use std::alloc::Global;
 use std::io::{self, Write};
 

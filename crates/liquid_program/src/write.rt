@@ -14,10 +14,10 @@ ghost use Rattle.liquid_program.specs.meaning.Written.{
 
 use crate::command::{Command, Paths};
 use crate::fault::Fault;
-use crate::folder::{Folder, Unread};
 use crate::pages_command::name_of;
 use crate::run::print;
 use liquid_core::Error;
+use liquid_files::{Folder, Unread};
 use std::alloc::{AllocError, Global};
 
 fn is_folder(path: &str) -> bool

@@ -11,6 +11,7 @@ use std_lists::choices::{compact, keep_where, map, uniq};
 use std_lists::lists::{concat, first, join, last, reverse};
 use std_lists::searches::{find, find_index, has, reject};
 use std_lists::sums::sum;
+use std_order::numbers::sort_numeric;
 use std_order::order::{sort, sort_natural};
 
 /// A filter on lists.
@@ -29,6 +30,7 @@ pub enum ListKind {
     Reverse,
     Sort,
     SortNatural,
+    SortNumeric,
     Sum,
     Uniq,
     Where,
@@ -76,6 +78,11 @@ impl FilterKind for ListKind {
                 "The items in order, whatever their case.",
                 &PROPERTY,
             ),
+            ListKind::SortNumeric => FilterRow::new(
+                "sort_numeric",
+                "The items in the order of their numbers.",
+                &PROPERTY,
+            ),
             ListKind::Sum => FilterRow::new("sum", "The sum of the items.", &PROPERTY),
             ListKind::Uniq => FilterRow::new("uniq", "Each item once.", &PROPERTY),
             ListKind::Where => FilterRow::new("where", "The items with a property.", &WHERE),
@@ -103,6 +110,7 @@ impl FilterKind for ListKind {
             ListKind::Reverse => reverse(alloc, input),
             ListKind::Sort => sort(alloc, input, given),
             ListKind::SortNatural => sort_natural(alloc, input, given),
+            ListKind::SortNumeric => sort_numeric(alloc, input, given),
             ListKind::Sum => sum(alloc, input, given),
             ListKind::Uniq => uniq(alloc, input, given),
             ListKind::Where => keep_where(alloc, input, given),

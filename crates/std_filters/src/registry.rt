@@ -24,7 +24,7 @@ use liquid_plugins::PluginRegistry;
 use std::alloc::{AllocError, Global};
 
 /// All standard filters except `date`.
-const TIMELESS_KINDS: [StdKind; 63] = [
+const TIMELESS_KINDS: [StdKind; 64] = [
     StdKind::Texts(TextKind::Append),
     StdKind::Texts(TextKind::Base64Decode),
     StdKind::Texts(TextKind::Base64Encode),
@@ -68,6 +68,7 @@ const TIMELESS_KINDS: [StdKind; 63] = [
     StdKind::Lists(ListKind::Reverse),
     StdKind::Lists(ListKind::Sort),
     StdKind::Lists(ListKind::SortNatural),
+    StdKind::Lists(ListKind::SortNumeric),
     StdKind::Lists(ListKind::Sum),
     StdKind::Lists(ListKind::Uniq),
     StdKind::Lists(ListKind::Where),

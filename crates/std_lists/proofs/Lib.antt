@@ -1,4 +1,4 @@
 pub mod Steps
 pub mod DistinctLemmas
 pub mod LastLemmas
-pub mod SumLemmas
+pub mod DecimalSumLemmas

@@ -18,23 +18,16 @@ use Rattle.std.proofs.Common.{
   ap,
   ◌∙◌,
   add-one,
-  ℤ,
   Result,
   Ok,
 }
 use Rattle.std.proofs.lemmas.List.{reverse-append}
 use Rattle.std.proofs.Math.Seq.{drop-cons}
-use Rattle.std.specs.Prelude.{◌+ℤ◌}
 use Rattle.liquid_error.specs.meaning.Refusal.{Refusal, ok_then}
-use Rattle.liquid_value.specs.meaning.Tree.{Tree}
 
--- entries after those that were found, if there are any
-abbrev pub after : List (Tree × Tree) → Result (List (Tree × Tree)) Refusal → Result (List (Tree × Tree)) Refusal
-after front r = ok_then r (λ es. Ok (front ++ es))
-
--- a sum that is added to the sum so far
-abbrev pub added : ℤ → Result ℤ Refusal → Result ℤ Refusal
-added sum r = ok_then r (λ rest. Ok (sum +ℤ rest))
+-- what comes after what was found, if there is no error
+abbrev pub after : {X : Type 0} → List X → Result (List X) Refusal → Result (List X) Refusal
+after front r = ok_then r (λ xs. Ok (front ++ xs))
 
 -- the first of what is left, and the rest
 pub mapped-drop : {A B : Type 0} (f : A → B) (xs : List A) (i : ℕ) (x : A) → i < length xs → x ≡ get_or xs i x → map f (drop i xs) ≡ f x

@@ -1,2 +1,3 @@
 pub mod DivisionLemmas
 pub mod RoundingLemmas
+pub mod NearestLemmas

@@ -1,2 +1,3 @@
 pub mod StableOrder
 pub mod KeyOrder
+pub mod NumberOrder

@@ -1,5 +1,6 @@
 //! Laws of the filters on texts. Each function only states its law.
 ghost use Rattle.std.specs.Prelude.{◌≡◌, Ok};
+ghost use Rattle.std_texts.specs.laws.Words.{FirstWordsAreKept};
 ghost use Rattle.std_texts.specs.meaning.Encoding.{base64_decoded, base64_encoded, base64_url_safe_decoded, base64_url_safe_encoded};
 ghost use Rattle.std_texts.specs.meaning.Written.{written};
 
@@ -11,4 +12,9 @@ pub fn base64_is_read_back(text: &str)
 /// The base64 of a text for URLs decodes to the text.
 pub fn base64_url_safe_is_read_back(text: &str)
     ensures { base64_url_safe_decoded (base64_url_safe_encoded (written text.now)) ≡ Ok (written text.now) }
+{}
+
+/// A text that is cut to a number of words has the first words of the text, if nothing is put at its end.
+pub fn first_words_are_kept(text: &str, count: i64)
+    ensures { FirstWordsAreKept count text.now }
 {}

@@ -1,6 +1,6 @@
 //! Partials with an ending.
 use crate::runs::{add_pages, add_split, holds_over};
-use liquid_program::in_memory::InMemoryFolder;
+use liquid_files::InMemoryFolder;
 use rows::{Line, rows_hold};
 use std::alloc::Global;
 use std::test::Fail;

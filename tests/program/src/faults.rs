@@ -1,6 +1,6 @@
 //! Pairs of faults: the first in the order of reading is reported, and nothing is written.
 use crate::runs::{add_names, add_pages, holds_over};
-use liquid_program::in_memory::InMemoryFolder;
+use liquid_files::InMemoryFolder;
 use rows::{Line, rows_hold};
 use std::alloc::Global;
 use std::test::Fail;

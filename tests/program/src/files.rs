@@ -1,6 +1,6 @@
 //! Pages that go to files, and several pages in one call.
 use crate::runs::{add_names, has_bytes, holds_over};
-use liquid_program::in_memory::InMemoryFolder;
+use liquid_files::InMemoryFolder;
 use rows::{Line, rows_hold};
 use serde_json::Value as Json;
 use std::alloc::Global;

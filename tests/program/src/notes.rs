@@ -1,6 +1,6 @@
 //! What `--explain` says of the cause of an error.
 use crate::runs::{add_names, add_pages, holds_over};
-use liquid_program::in_memory::InMemoryFolder;
+use liquid_files::InMemoryFolder;
 use rows::{Line, rows_hold};
 use std::alloc::Global;
 use std::test::Fail;

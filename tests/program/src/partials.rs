@@ -1,6 +1,6 @@
 //! Partials from a folder.
 use crate::runs::{add_file, add_names, add_pages, add_words, holds_over};
-use liquid_program::in_memory::InMemoryFolder;
+use liquid_files::InMemoryFolder;
 use rows::{Line, rows_hold};
 use serde_json::Value as Json;
 use std::alloc::Global;

@@ -1,6 +1,7 @@
 //! Where an error is, what was expected there and what may help.
 use crate::runs::{add_file, add_split, add_words, bytes_of};
-use liquid_program::in_memory::{InMemoryFolder, run_in_memory};
+use liquid_files::InMemoryFolder;
+use liquid_program::in_memory::run_in_memory;
 use rows::{Line, rows_hold};
 use serde_json::Value as Json;
 use std::alloc::Global;

@@ -4,7 +4,8 @@
 //! what the output and the error stream have. Words are one text with blanks between them, or a list in a table where a
 //! word is empty or has a blank. Bytes are a text, or a list of parts: texts, bytes by their numbers, and pairs of a text
 //! and how often it is repeated. For the error stream, `USAGE` is short for the line of usage.
-use liquid_program::in_memory::{InMemoryFolder, Ran, run_in_memory};
+use liquid_files::InMemoryFolder;
+use liquid_program::in_memory::{Ran, run_in_memory};
 use rows::Line;
 use serde_json::Value as Json;
 use std::alloc::Global;

@@ -1,6 +1,6 @@
 //! Outputs and error streams of any kind.
 use crate::runs::{add_pages, add_words, has_bytes, has_error, has_status};
-use liquid_program::in_memory::InMemoryFolder;
+use liquid_files::InMemoryFolder;
 use liquid_program::run::run;
 use rows::{Line, rows_hold};
 use std::alloc::Global;

@@ -2,7 +2,7 @@
 use Rattle.std.specs.Prelude.{◌≡◌, ℕ, List, Bool, true, Option, None, is_some}
 use Rattle.liquid_program.specs.meaning.Command.{option_words}
 use Rattle.liquid_program.specs.meaning.PagesCommand.{AskedPages}
-use Rattle.liquid_program.specs.meaning.Files.{known_in, listed_in}
+use Rattle.liquid_files.specs.meaning.Files.{known_in, listed_in}
 use Rattle.liquid_program.specs.meaning.Gathered.{Gathers, GathersGlobals}
 use Rattle.liquid_program.specs.meaning.Requests.{Step, command_steps, pages_steps, first_trouble}
 

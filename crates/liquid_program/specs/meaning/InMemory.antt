@@ -20,16 +20,12 @@ use Rattle.std.specs.Prelude.{
   string_bytes,
   option_map,
 }
-use Rattle.std.specs.BTreeMap.{BTreeMap, get_by_text}
-use Rattle.std.specs.Global.{Vec}
-use Rattle.std.specs.declared.alloc.Global.{Global}
 use Rattle.liquid_runtime.specs.meaning.Maps.{Names}
 use Rattle.liquid_parser.specs.meaning.Reading.{Reads}
 use Rattle.liquid_template.specs.meaning.Run.{Run, written}
 use Rattle.liquid_partials.specs.meaning.Sources.{Texts}
-use Rattle.liquid_program.specs.declared.in_memory.InMemoryFolder.{InMemoryFolder}
 use Rattle.liquid_program.specs.meaning.Command.{Asked, command_of}
-use Rattle.liquid_program.specs.meaning.Files.{Same, known_in, listed_in}
+use Rattle.liquid_files.specs.meaning.Files.{Same, known_in, listed_in}
 use Rattle.liquid_program.specs.meaning.PagesCommand.{pages_of}
 use Rattle.liquid_program.specs.meaning.Written.{WritesAsked, WritesOthers}
 use Rattle.liquid_program.specs.declared.command.Options.{Options}
@@ -42,24 +38,6 @@ use Rattle.liquid_pages.specs.meaning.Pages.{IsFoundIn, PageAnswer, Settings}
 use Rattle.liquid_pages.specs.meaning.Shown.{page_run}
 use Rattle.liquid_program.specs.meaning.Program.{page_options}
 use Rattle.liquid_program.specs.meaning.ProgramLanguage.{plain_language, plain_setting, standard_language, standard_setting}
-
--- the bytes of the file at a path
-abbrev pub bytes_at : InMemoryFolder → List ℕ → Option (List ℕ)
-bytes_at folder path = option_map (λ v. v.items) (get_by_text folder.files path)
-
--- the list at a path
-abbrev pub list_at : BTreeMap (String Global) (Vec (String Global)) → List ℕ → Option (List (List ℕ))
-list_at lists path = option_map (λ v. map string_bytes v.items) (get_by_text lists path)
-
--- of two kinds of lists the one that is asked for, at a path
-abbrev pub lists_at : BTreeMap (String Global) (Vec (String Global)) → BTreeMap (String Global) (Vec (String Global)) → Bool → List ℕ
-    → Option (List (List ℕ))
-lists_at folders trees false path = list_at folders path
-lists_at folders trees true path = list_at trees path
-
--- the names in the folder at a path, or the paths in it and in its subfolders
-abbrev pub names_at : InMemoryFolder → Bool → List ℕ → Option (List (List ℕ))
-names_at folder = lists_at folder.folders folder.trees
 
 -- the output is all pieces of the run, which has no refusal
 abbrev pub IsWhole : {Reg : Type 0} → Run Reg → List ℕ → Type 0

@@ -29,7 +29,7 @@ use Rattle.liquid_pages.specs.meaning.Globals.{json_object}
 use Rattle.liquid_program.specs.declared.fault.Fault.{Fault}
 use Rattle.liquid_program.specs.declared.fault.Fault.TheVariants.{Refused, Unreadable, UnreadableInFolder, BadJson, NoGlobals}
 use Rattle.liquid_program.specs.meaning.Command.{command_of, option_words}
-use Rattle.liquid_program.specs.meaning.Files.{Request, Requests, reading, listing, also, known_in, listed_in}
+use Rattle.liquid_files.specs.meaning.Files.{Request, Requests, reading, listing, also, known_in, listed_in}
 use Rattle.liquid_program.specs.meaning.Gathered.{in_order, path_in}
 use Rattle.liquid_program.specs.meaning.PagesCommand.{AskedPages, pages_of}
 use Rattle.liquid_program.specs.meaning.Status.{all_status}

@@ -25,7 +25,7 @@ use Rattle.liquid_runtime.specs.meaning.Maps.{Names}
 use Rattle.liquid_template.specs.meaning.Sunk.{Sunk}
 use Rattle.liquid_partials.specs.meaning.Sources.{Texts}
 use Rattle.liquid_program.specs.meaning.Command.{Asked, command_of, first_word, option_words}
-use Rattle.liquid_program.specs.meaning.Files.{Replaces, Same}
+use Rattle.liquid_files.specs.meaning.Files.{Replaces, Same}
 use Rattle.liquid_program.specs.meaning.Gathered.{GathersGlobals}
 use Rattle.liquid_program.specs.meaning.PagesCommand.{AskedPages, pages_of}
 use Rattle.liquid_program.specs.meaning.Program.{Executes, ExecutesOne, Printed}

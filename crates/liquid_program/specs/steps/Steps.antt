@@ -3,9 +3,9 @@ use Rattle.std.specs.Prelude.{◌≡◌, ℕ, ◌⊎◌, List, [], ◌∷◌, Op
 use Rattle.std.specs.Borrow.{Bor}
 use Rattle.std.specs.declared.alloc.Global.{Global}
 use Rattle.liquid_program.specs.declared.fault.Fault.{Fault}
-use Rattle.liquid_program.specs.declared.folder.Unread.{Unread}
-use Rattle.liquid_program.specs.declared.folder.Unread.TheVariants.{Fault as Absent, Memory}
-use Rattle.liquid_program.specs.meaning.Files.{Request, Requests, also}
+use Rattle.liquid_files.specs.declared.folder.Unread.{Unread}
+use Rattle.liquid_files.specs.declared.folder.Unread.TheVariants.{Fault as Absent, Memory}
+use Rattle.liquid_files.specs.meaning.Files.{Request, Requests, also}
 use Rattle.liquid_program.specs.meaning.Requests.{Begins, IsMemory, OutOfMemory, Step, Trouble, first_trouble, reported, up_to_trouble}
 use Rattle.liquid_program.specs.meaning.Status.{fault_status}
 

@@ -40,18 +40,19 @@ timeless_kinds =
     ∷ std.Texts texts.Base64UrlSafeDecode ∷ std.Texts texts.Base64UrlSafeEncode ∷ std.Texts texts.Capitalize
     ∷ std.Texts texts.Downcase ∷ std.Texts texts.Escape ∷ std.Texts texts.EscapeOnce ∷ std.Texts texts.H
     ∷ std.Texts texts.Lstrip ∷ std.Texts texts.NewlineToBr ∷ std.Texts texts.Prepend ∷ std.Texts texts.Remove
-    ∷ std.Texts texts.RemoveFirst ∷ std.Texts texts.RemoveLast ∷ std.Texts texts.Replace ∷ std.Texts texts.ReplaceFirst
-    ∷ std.Texts texts.ReplaceLast ∷ std.Texts texts.Rstrip ∷ std.Texts texts.Slice ∷ std.Texts texts.Split
-    ∷ std.Texts texts.Strip ∷ std.Texts texts.StripHtml ∷ std.Texts texts.StripNewlines ∷ std.Texts texts.Truncate
-    ∷ std.Texts texts.TruncateWords ∷ std.Texts texts.Upcase ∷ std.Texts texts.UrlDecode ∷ std.Texts texts.UrlEncode
-    ∷ std.Lists lists.Compact ∷ std.Lists lists.Concat ∷ std.Lists lists.Find ∷ std.Lists lists.FindIndex
-    ∷ std.Lists lists.First ∷ std.Lists lists.Has ∷ std.Lists lists.Join ∷ std.Lists lists.Last ∷ std.Lists lists.Map
-    ∷ std.Lists lists.Reject ∷ std.Lists lists.Reverse ∷ std.Lists lists.Sort ∷ std.Lists lists.SortNatural
-    ∷ std.Lists lists.Sum ∷ std.Lists lists.Uniq ∷ std.Lists lists.Where ∷ std.Numbers numbers.Abs
-    ∷ std.Numbers numbers.AtLeast ∷ std.Numbers numbers.AtMost ∷ std.Numbers numbers.Ceil ∷ std.Numbers numbers.Decimal
-    ∷ std.Numbers numbers.DividedBy ∷ std.Numbers numbers.Floor ∷ std.Numbers numbers.FromMinor ∷ std.Numbers numbers.Minus
-    ∷ std.Numbers numbers.Modulo ∷ std.Numbers numbers.Plus ∷ std.Numbers numbers.Round ∷ std.Numbers numbers.Times
-    ∷ std.Numbers numbers.ToMinor ∷ std.Values values.Default ∷ std.Values values.Json
+    ∷ std.Texts texts.RemoveFirst ∷ std.Texts texts.RemoveLast ∷ std.Texts texts.Replace
+    ∷ std.Texts texts.ReplaceFirst ∷ std.Texts texts.ReplaceLast ∷ std.Texts texts.Rstrip ∷ std.Texts texts.Slice
+    ∷ std.Texts texts.Split ∷ std.Texts texts.Strip ∷ std.Texts texts.StripHtml ∷ std.Texts texts.StripNewlines
+    ∷ std.Texts texts.Truncate ∷ std.Texts texts.TruncateWords ∷ std.Texts texts.Upcase ∷ std.Texts texts.UrlDecode
+    ∷ std.Texts texts.UrlEncode ∷ std.Lists lists.Compact ∷ std.Lists lists.Concat ∷ std.Lists lists.Find
+    ∷ std.Lists lists.FindIndex ∷ std.Lists lists.First ∷ std.Lists lists.Has ∷ std.Lists lists.Join
+    ∷ std.Lists lists.Last ∷ std.Lists lists.Map ∷ std.Lists lists.Reject ∷ std.Lists lists.Reverse
+    ∷ std.Lists lists.Sort ∷ std.Lists lists.SortNatural ∷ std.Lists lists.SortNumeric ∷ std.Lists lists.Sum
+    ∷ std.Lists lists.Uniq ∷ std.Lists lists.Where ∷ std.Numbers numbers.Abs ∷ std.Numbers numbers.AtLeast
+    ∷ std.Numbers numbers.AtMost ∷ std.Numbers numbers.Ceil ∷ std.Numbers numbers.Decimal
+    ∷ std.Numbers numbers.DividedBy ∷ std.Numbers numbers.Floor ∷ std.Numbers numbers.FromMinor
+    ∷ std.Numbers numbers.Minus ∷ std.Numbers numbers.Modulo ∷ std.Numbers numbers.Plus ∷ std.Numbers numbers.Round
+    ∷ std.Numbers numbers.Times ∷ std.Numbers numbers.ToMinor ∷ std.Values values.Default ∷ std.Values values.Json
     ∷ std.Values values.Size ∷ []
 
 -- `date`, for which `now` and `today` are this moment, if there is one

@@ -13,6 +13,7 @@ use Rattle.std_texts.specs.meaning.Replacing as text_replacing
 use Rattle.std_texts.specs.meaning.Splitting as text_splitting
 use Rattle.std_lists.specs.meaning.Choices as choice
 use Rattle.std_lists.specs.meaning.Lists as listed
+use Rattle.std_order.specs.meaning.Numbers as by_number
 use Rattle.std_order.specs.meaning.Order as order
 use Rattle.std_lists.specs.meaning.Searches as searching
 use Rattle.std_lists.specs.meaning.Sums as sums
@@ -114,6 +115,7 @@ list_sense lists.Reject = placed (codes "reject") one_or_two searching.rejected
 list_sense lists.Reverse = alone (codes "reverse") (λ input. Ok (listed.reversed input))
 list_sense lists.Sort = placed (codes "sort") one_or_none order.sorted
 list_sense lists.SortNatural = placed (codes "sort_natural") one_or_none order.sorted_naturally
+list_sense lists.SortNumeric = placed (codes "sort_numeric") one_or_none by_number.sorted_numerically
 list_sense lists.Sum = placed (codes "sum") one_or_none sums.summed
 list_sense lists.Uniq = placed (codes "uniq") one_or_none choice.unique
 list_sense lists.Where = placed (codes "where") one_or_two choice.where_property

@@ -5,6 +5,7 @@ use liquid_value::{Value, ValueCow};
 use rows::{Line, rows_hold};
 use std::alloc::Global;
 use std::test::Fail;
+use std_order::numbers::sort_numeric;
 use std_order::order::{sort, sort_natural};
 
 /// A filter, its input, its arguments, and the source of what it returns.
@@ -14,7 +15,12 @@ const ROWS: &str = r#"["sort", [3, null, 1], [], "[1, 3, , ]"]
 ["sort", [{"a": 1}], [], "[a1, ]"]
 ["sort_natural", ["b", "C", "a", null, "B"], [], "[a, b, B, C, , ]"]
 ["sort_natural", [10, 9, "x"], [], "[10, 9, x, ]"]
-["sort_natural", [1, 2], ["a", "b"], "liquid: Unexpected arguments\n"]"#;
+["sort_natural", [1, 2], ["a", "b"], "liquid: Unexpected arguments\n"]
+["sort_numeric", ["10", 9, null, "9.5", "-1.25", " 2 "], [], "[-1.25,  2 , 9, 9.5, 10, , ]"]
+["sort_numeric", ["1.50", "0.999999999999999999", "1.5", 1, "9223372036854775807"], [], "[0.999999999999999999, 1, 1.50, 1.5, 9223372036854775807, ]"]
+["sort_numeric", [{"k": "10"}, {"n": 2}, {"k": 9}], ["k"], "[k9, k10, n2, ]"]
+["sort_numeric", ["2", "x"], [], "liquid: Whole number expected\n  with:\n    found=\"x\"\n"]
+["sort_numeric", [1, 2], ["a", "b"], "liquid: Unexpected arguments\n"]"#;
 
 /// Returns the result of a filter.
 fn answered(
@@ -25,6 +31,7 @@ fn answered(
 ) -> Result<Value, Error> {
     match filter {
         "sort" => sort(alloc, input, arguments),
+        "sort_numeric" => sort_numeric(alloc, input, arguments),
         _ => sort_natural(alloc, input, arguments),
     }
 }

@@ -2,7 +2,7 @@ use Rattle.std.proofs.Common.{◌≡◌, ℕ, List, Option, map, string_bytes}
 use Rattle.std.specs.FinMap.{keys}
 use Rattle.std.specs.Map.{keys_of}
 use Rattle.liquid_plugins.specs.meaning.Registry.{by_name}
-use Rattle.liquid_program.specs.meaning.Files.{known_in}
+use Rattle.liquid_files.specs.meaning.Files.{known_in}
 use Rattle.liquid_program.proofs.FolderLemmas.{ReadSoFar}
 use Rattle.liquid_program.proofs.StepsLemmas.{CameSoFar}
 use Rattle.liquid_program.proofs.gather.texts_of.Given as goal

@@ -1,5 +1,5 @@
 use Rattle.std.proofs.Common.{map, string_bytes}
-use Rattle.liquid_program.specs.meaning.InMemory.{bytes_at, names_at}
+use Rattle.liquid_files.specs.meaning.InMemory.{bytes_at, names_at}
 use Rattle.liquid_program.proofs.ShownRuns.{Shows-printed}
 use Rattle.liquid_program.proofs.in_memory.run_in_memory.Goals as goal
 

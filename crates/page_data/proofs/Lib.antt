@@ -1,0 +1,5 @@
+mod Columns
+mod Marks
+mod Paths
+mod Placed
+mod Walk

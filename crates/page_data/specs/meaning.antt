@@ -1,0 +1,4 @@
+pub mod Document
+pub mod Merged
+pub mod Sheet
+pub mod Tables

@@ -1,0 +1,6 @@
+pub mod FrontLemmas
+pub mod ItemLemmas
+pub mod Names
+pub mod PageNames
+pub mod PartialLemmas
+pub mod WrapLemmas

@@ -1,0 +1,92 @@
+-- The partials of a folder, one after another.
+use Rattle.std.proofs.Common.{
+  ◌≡◌,
+  ◌∙◌,
+  ℕ,
+  List,
+  [],
+  ◌∷◌,
+  Bool,
+  true,
+  false,
+  cond,
+  Option,
+  None,
+  Some,
+  Result,
+  Ok,
+  Err,
+  IfOk,
+  String,
+  Global,
+  BTreeMap,
+  map,
+  string_bytes,
+  refl,
+  sym,
+  ap,
+  subst,
+}
+use Rattle.std.specs.Prelude.{option_map, if◌then◌else◌}
+use Rattle.std.specs.BTreeMap.{Updates, get_by_text}
+use Rattle.std.specs.Option.{option_or}
+use Rattle.std.specs.Str.{bytes_eq}
+use Rattle.std.specs.String.{string_cmp}
+use Rattle.std.proofs.lemmas.Map.Text.{btree_map_updates_text}
+use Rattle.liquid_files.specs.declared.folder.Unread.{Unread}
+use Rattle.liquid_files.specs.meaning.Files.{Reads}
+use Rattle.page_site.specs.declared.fault.SiteFault.{SiteFault}
+use Rattle.page_site.specs.meaning.Faults.{partial_text}
+use Rattle.page_site.specs.meaning.Items.{file_in, page_name}
+use Rattle.page_site.specs.meaning.Partials.{partial_in}
+
+choose : (b : Bool) (x : String Global) (rest : Option (String Global))
+    → option_map string_bytes (cond b (Some x) rest) ≡ cond b (Some (string_bytes x)) (option_map string_bytes rest)
+choose true x rest = refl
+choose false x rest = refl
+
+-- a partial is at its name, and the others are where they were
+pub text_put : (old new : BTreeMap (String Global) (String Global)) (k text : String Global) (name : List ℕ)
+    → Updates string_cmp old new k (Some text) → string_bytes k ≡ name → (q : List ℕ)
+    → partial_text new q ≡ (if bytes_eq name q then Some (string_bytes text) else partial_text old q)
+text_put old new k text name updates is q =
+    ap (option_map string_bytes) (btree_map_updates_text (string_bytes k) old new (Some text) updates q)
+    ∙ choose (bytes_eq (string_bytes k) q) text (get_by_text old q)
+    ∙ ap (λ n. if bytes_eq n q then Some (string_bytes text) else partial_text old q) is
+
+pub listed_names : {V : Type 0} (of : V → List (List ℕ)) (folder : Option (List (List ℕ))) (v : V) → Reads of (Some folder) (Ok v)
+    → folder ≡ Some (of v)
+listed_names of (Some there) v is = ap Some (sym is)
+listed_names of None v never = absurd never
+
+pub partials_listed : (r : Result (BTreeMap (String Global) (String Global)) SiteFault) (files : List ℕ → Option (List ℕ)) (folder : List ℕ)
+    (names : List (List ℕ)) (listed : Option (List (List ℕ))) → listed ≡ Some names
+    → IfOk r (λ partials. (name : List ℕ) → partial_text partials name ≡ partial_in files folder names name)
+    → IfOk r (λ partials. (names : List (List ℕ)) × (listed ≡ Some names)
+    × ((name : List ℕ) → partial_text partials name ≡ partial_in files folder names name))
+partials_listed (Ok partials) files folder names listed is h = (names, is, h)
+partials_listed (Err fault) files folder names listed is h = tt
+
+or_none : (o : Option (List ℕ)) → option_or o None ≡ o
+or_none None = refl
+or_none (Some x) = refl
+
+-- no partial is read yet
+pub none_read : (empty : BTreeMap (String Global) (String Global)) (o : Option (List ℕ)) (name : List ℕ)
+    → partial_text empty name ≡ None → option_or o (partial_text empty name) ≡ o
+none_read empty o name is = ap (option_or o) is ∙ or_none o
+
+or_chosen : (rest : Option (List ℕ)) (b : Bool) (text before : Option (List ℕ)) (t : List ℕ) → text ≡ Some t
+    → option_or rest (if b then Some t else before) ≡ option_or (option_or rest (if b then text else None)) before
+or_chosen None true text before t is = ap (λ x. option_or x before) (sym is)
+or_chosen None false text before t is = refl
+or_chosen (Some r) b text before t is = refl
+
+-- one more partial is read
+pub one_read : (rest : Option (List ℕ)) (name other : List ℕ) (files : List ℕ → Option (List ℕ)) (folder : List ℕ)
+    (old new : BTreeMap (String Global) (String Global)) (text : List ℕ) → files (file_in folder other) ≡ Some text
+    → partial_text new name ≡ (if bytes_eq (page_name other) name then Some text else partial_text old name)
+    → option_or rest (partial_text new name)
+    ≡ option_or (option_or rest (if bytes_eq (page_name other) name then files (file_in folder other) else None)) (partial_text old name)
+one_read rest name other files folder old new text is put =
+    ap (option_or rest) put ∙ or_chosen rest (bytes_eq (page_name other) name) (files (file_in folder other)) (partial_text old name) text is

@@ -1,0 +1,7 @@
+use Rattle.std.proofs.Common.{◌≡◌, bytes_eq, map, drop, string_bytes}
+use Rattle.std.specs.List.{list_any}
+use Rattle.page_site.proofs.layouts.is_among.Given as goal
+
+abbrev pub invariant-loop-other : goal.invariant-loop-other
+invariant-loop-other l =
+    list_any (bytes_eq l.name) (map string_bytes l.names) ≡ list_any (bytes_eq l.name) (map string_bytes (drop l.other-index l.names))

@@ -1,0 +1,6 @@
+pub mod Answers
+pub mod Faults
+pub mod Front
+pub mod Items
+pub mod Layouts
+pub mod Partials

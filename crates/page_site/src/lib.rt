@@ -1,0 +1,18 @@
+//! The pages of a site: what is rendered and what is copied, within which layouts, and which files are written.
+#![tactic(auto)]
+
+pub mod engine;
+pub mod fault;
+pub mod front;
+pub mod items;
+pub mod layouts;
+pub mod partials;
+pub mod site;
+mod yaml;
+
+pub use engine::{Engine, Failure, Source};
+pub use fault::{PageFault, SiteFault};
+pub use items::{Item, add_items, find_clash, is_page, page_name};
+pub use layouts::{Partials, render_page};
+pub use partials::{read_partials, read_text};
+pub use site::{Site, make, report, write_item, write_items};

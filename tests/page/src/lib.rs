@@ -1,0 +1,5 @@
+//! The tests of what pages of files are made of: data, assignments, front matter, layouts and sites.
+
+mod data;
+mod set;
+mod sites;
