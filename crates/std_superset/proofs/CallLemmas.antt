@@ -1,5 +1,5 @@
 -- What the tokens of the library's tags make in the standard language.
-use Rattle.std.proofs.Common.{◌≡◌, ℕ, Bool, true, false, cond, List, [], ◌∷◌, codes, Option, Some, None, Result, Ok, Err, refl, sym, ap, ◌∙◌}
+use Rattle.std.proofs.Common.{◌≡◌, ℕ, Bool, true, false, cond, List, [], ◌∷◌, codes, Some, None, Result, Ok, refl, sym, ap, ◌∙◌}
 use Rattle.std.specs.Prelude.{bytes_eq, if◌then◌else◌, not, ◌&&◌}
 use Rattle.std.proofs.lemmas.Slice.Eq.{bytes_eq-Decides}
 use Rattle.liquid_error.specs.declared.place.Place.{Place}
@@ -19,7 +19,7 @@ use Rattle.liquid_tags.specs.meaning.CallsGiven.{colon, comma, pair_given, pairs
 use Rattle.liquid_tags.specs.meaning.Partials.{CallShape, Pair}
 use Rattle.liquid_tags.specs.meaning.TagPlugins as library_tag
 use Rattle.liquid_tags.proofs.PairLemmas.{going_on, pairs_step}
-use Rattle.std_calls.specs.meaning.CallsGiven.{CallRead, after_comma, after_name, after_word, alone, begin_with_colon, by_for, by_with}
+use Rattle.std_calls.specs.meaning.CallsGiven.{after_name, after_word, alone, begin_with_colon, by_for, by_with}
 use Rattle.std_calls.specs.meaning.CallsGiven.{call_given, from_colon, from_value, pair_from, pairs_from}
 use Rattle.liquid_std.specs.declared.tag_plugins.StdTags.TheVariants as tag
 use Rattle.liquid_std.specs.declared.tags.StdTagShape.{StdTagShape}
