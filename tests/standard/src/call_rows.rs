@@ -44,8 +44,14 @@ const PARTIALS: [(&str, &str); 13] = [
     ("item", "{{ n }};"),
     ("card", "[{{ card }}]"),
     ("nav/entry", "<{{ entry }}>"),
-    ("loop", "{{ forloop.index }}{{ forloop.index0 }}{{ forloop.rindex }}{{ forloop.rindex0 }}{{ forloop.length }}{% if forloop.first %}f{% endif %}{% if forloop.last %}l{% endif %}{{ loop }} "),
-    ("alone", "{% if forloop %}loop{% else %}{{ alone }}{% endif %}."),
+    (
+        "loop",
+        "{{ forloop.index }}{{ forloop.index0 }}{{ forloop.rindex }}{{ forloop.rindex0 }}{{ forloop.length }}{% if forloop.first %}f{% endif %}{% if forloop.last %}l{% endif %}{{ loop }} ",
+    ),
+    (
+        "alone",
+        "{% if forloop %}loop{% else %}{{ alone }}{% endif %}.",
+    ),
     ("pair", "{{ x }}{{ y }}"),
     ("entry", "{{ e[0] }}={{ e[1] }};"),
     ("kept", "{% if s %}s{% endif %}{% assign s = 1 %}{{ kept }}"),
