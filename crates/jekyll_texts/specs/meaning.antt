@@ -1,0 +1,3 @@
+pub mod CharacterSets
+pub mod Runs
+pub mod Words
