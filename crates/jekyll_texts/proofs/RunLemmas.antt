@@ -1,33 +1,5 @@
 -- Runs of characters, read one by one.
-use Rattle.std.proofs.Common.{
-  ◌≡◌,
-  ℕ,
-  ◌+◌,
-  ◌-◌,
-  ◌<◌,
-  ◌≤◌,
-  zero,
-  suc,
-  Bool,
-  true,
-  false,
-  not,
-  List,
-  [],
-  ◌∷◌,
-  ◌++◌,
-  ◌&&◌,
-  eqb,
-  length,
-  take,
-  get_or,
-  refl,
-  sym,
-  ap,
-  ◌∙◌,
-  cond,
-  arith,
-}
+use Rattle.std.proofs.Common.{◌≡◌, ℕ, ◌+◌, ◌-◌, ◌<◌, ◌≤◌, suc, Bool, true, false, not, List, [], ◌∷◌, ◌++◌, ◌&&◌, eqb, length, take, get_or, refl, sym, ap, ◌∙◌, cond, arith}
 use Rattle.std.proofs.Common.{add-zero, append_assoc, append-nil, eq-eqb}
 use Rattle.std.proofs.lemmas.Bool.{cond-true, cond-false, ne_eqb}
 use Rattle.std.specs.Char.{encode_utf8}
@@ -168,7 +140,7 @@ module _ (bs rest : List ℕ) (c : ℕ) (u : IsUtf8 bs) (e : bs ≡ encode_utf8 
       → count + run_count test (chars rest) ≡ total + counted true test (chars rest)
   count_old test count total passes h =
       let next : count + 0 + run_count test (chars rest) ≡ total + counted true test (chars rest) =
-        rw passes at (count_next test true count total h) in
+      rw passes at (count_next test true count total h) in
       rw (add-zero count) at next
 
   pub count_none : (test : ℕ → Bool) (in_run : Bool) (count total : ℕ) → test c ≡ false
@@ -176,7 +148,7 @@ module _ (bs rest : List ℕ) (c : ℕ) (u : IsUtf8 bs) (e : bs ≡ encode_utf8 
       → count + run_count test (chars rest) ≡ total + counted false test (chars rest)
   count_none test in_run count total fails h =
       let next : count + 0 + run_count test (chars rest) ≡ total + 0 =
-        rw fails at (count_next test in_run count total h) in
+      rw fails at (count_next test in_run count total h) in
       rw (add-zero count) at next
 
   pub fewer_chars : length (chars bs) ≡ length (chars rest) + 1

@@ -1,5 +1,5 @@
 -- White space and words.
-use Rattle.std.specs.Prelude.{ℕ, ◌+◌, ◌==◌, Bool, List, chars, codes, count_by, encode_utf8_all, if◌then◌else◌}
+use Rattle.std.specs.Prelude.{ℕ, ◌+◌, ◌==◌, List, chars, count_by, encode_utf8_all, if◌then◌else◌}
 use Rattle.std.specs.Str.{byte}
 use Rattle.jekyll_texts.specs.declared.character_sets.CharacterSet.TheVariants.{Printed, Western, WhiteSpace}
 use Rattle.jekyll_texts.specs.declared.words.WordMode.{WordMode}

@@ -1,6 +1,5 @@
-use Rattle.std.proofs.Common.{◌≡◌, arith, sym, ◌∙◌, refl}
+use Rattle.std.proofs.Common.{arith, sym, ◌∙◌}
 use Rattle.std.proofs.lemmas.Str.{IsUtf8-past_char}
-use Rattle.std.specs.Str.Iter.{chars_rest}
 use Rattle.jekyll_texts.proofs.RunLemmas.{chars_fit, count_new, count_old, count_none, fewer_chars}
 use Rattle.jekyll_texts.proofs.runs.run_count.Goals as goal
 use Rattle.jekyll_texts.proofs.runs.run_count.Goals.{else-contained-via-then-contained+else-not-in_run, else-contained-via-else-contained}

@@ -1,4 +1,4 @@
-use Rattle.std.proofs.Common.{◌≡◌, sym, ◌∙◌, string_bytes}
+use Rattle.std.proofs.Common.{sym, ◌∙◌, string_bytes}
 use Rattle.std.specs.Str.{chars, encode_utf8_all}
 use Rattle.jekyll_texts.specs.meaning.CharacterSets.{contains}
 use Rattle.jekyll_texts.specs.meaning.Runs.{with_runs_as}

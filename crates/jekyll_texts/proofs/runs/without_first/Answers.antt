@@ -1,4 +1,4 @@
-use Rattle.std.proofs.Common.{arith, sym, subst, ◌<◌, get_or}
+use Rattle.std.proofs.Common.{arith, sym, ◌<◌, get_or}
 use Rattle.std.proofs.lemmas.Str.{IsCharBoundary-after_ascii}
 use Rattle.jekyll_texts.proofs.runs.without_first.Goals as goal
 
