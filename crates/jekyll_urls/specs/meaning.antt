@@ -1,0 +1,4 @@
+pub mod Cleaning
+pub mod Parting
+pub mod Dots
+pub mod Urls
