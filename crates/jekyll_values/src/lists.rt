@@ -75,7 +75,9 @@ fn size_of_cut(count: i64) -> usize
 fn kept(items: &[Value], count: usize, end: End) -> &[Value]
     ensures { map tree_of result.now ≡ Spec.without end count (map tree_of items.now) }
 {
-    let count = count.min(items.len());
+    if count >= items.len() {
+        return &[];
+    }
     match end {
         End::First => &items[count..],
         End::Last => &items[..items.len() - count],
@@ -202,7 +204,8 @@ fn push_series(text: &mut String, items: &[&Value], by: &str) -> Result<(), Allo
         push_text(text, item)?;
         text.push_str(", ")?;
     }
-    push_last(text, last, by)
+    push_last(text, last, by)?;
+    Ok(())
 }
 
 /// Appends the word, a space and the item.

@@ -28,6 +28,12 @@ cut end input [] = cut_by end (Ok (pos 1)) input
 cut end input (n ∷ []) = cut_by end (whole n) input
 cut end input other = Err unexpected_arguments
 
+abbrev pub pop : Tree → List Tree → Result Tree Refusal
+pop input arguments = cut Last input arguments
+
+abbrev pub shift : Tree → List Tree → Result Tree Refusal
+shift input arguments = cut First input arguments
+
 -- an array with one more item at its end, and at its start; any other input stays
 abbrev pub pushed : Tree → Tree → Tree
 pushed t (array ts) = list_of (own_items ts ++ (t ∷ []))
