@@ -1,9 +1,8 @@
 //! The kinds of Jekyll's filters.
 ghost use Rattle.liquid_jekyll.specs.meaning.Senses.{jekyll_sense};
 
-use crate::json::inspect;
-use crate::parameters::{CONNECTOR, COUNT, ITEM, MODE, NONE, STYLE};
-use jekyll_dates::{date_to_long_string, date_to_rfc822, date_to_string, date_to_xmlschema};
+use crate::inspection::inspect;
+use crate::parameters::{CONNECTOR, COUNT, ITEM, MODE, NONE};
 use jekyll_values::{
     array_to_sentence_string, normalize_whitespace, number_of_words, pop, push, shift, slugify,
     strip_index, unshift, xml_escape,
@@ -20,10 +19,6 @@ use std_texts::url_encode;
 pub enum JekyllKind {
     ArrayToSentenceString,
     CgiEscape,
-    DateToLongString,
-    DateToRfc822,
-    DateToString,
-    DateToXmlschema,
     Inspect,
     Jsonify,
     NormalizeWhitespace,
@@ -48,22 +43,6 @@ impl FilterKind for JekyllKind {
                 &CONNECTOR,
             ),
             JekyllKind::CgiEscape => FilterRow::new("cgi_escape", "The text for a URL.", &NONE),
-            JekyllKind::DateToLongString => FilterRow::new(
-                "date_to_long_string",
-                "A date with the whole name of its month.",
-                &STYLE,
-            ),
-            JekyllKind::DateToRfc822 => {
-                FilterRow::new("date_to_rfc822", "A date for mails and feeds.", &NONE)
-            }
-            JekyllKind::DateToString => FilterRow::new(
-                "date_to_string",
-                "A date with the short name of its month.",
-                &STYLE,
-            ),
-            JekyllKind::DateToXmlschema => {
-                FilterRow::new("date_to_xmlschema", "A date for XML.", &NONE)
-            }
             JekyllKind::Inspect => {
                 FilterRow::new("inspect", "The input as JSON, for XML.", &NONE)
             }
@@ -77,7 +56,11 @@ impl FilterKind for JekyllKind {
                 FilterRow::new("number_of_words", "How many words there are.", &MODE)
             }
             JekyllKind::Pop => FilterRow::new("pop", "The array without its last items.", &COUNT),
-            JekyllKind::Push => FilterRow::new("push", "The array with one more item at its end.", &ITEM),
+            JekyllKind::Push => FilterRow::new(
+                "push",
+                "The array with one more item at its end.",
+                &ITEM,
+            ),
             JekyllKind::Shift => {
                 FilterRow::new("shift", "The array without its first items.", &COUNT)
             }
@@ -108,10 +91,6 @@ impl FilterKind for JekyllKind {
         match self {
             JekyllKind::ArrayToSentenceString => array_to_sentence_string(alloc, input, given),
             JekyllKind::CgiEscape => url_encode(alloc, input),
-            JekyllKind::DateToLongString => date_to_long_string(alloc, input, given),
-            JekyllKind::DateToRfc822 => date_to_rfc822(alloc, input),
-            JekyllKind::DateToString => date_to_string(alloc, input, given),
-            JekyllKind::DateToXmlschema => date_to_xmlschema(alloc, input),
             JekyllKind::Inspect => inspect(alloc, input),
             JekyllKind::Jsonify => json(alloc, input),
             JekyllKind::NormalizeWhitespace => normalize_whitespace(alloc, input),

@@ -1,7 +1,7 @@
 //! Jekyll's filters, in a table beside the standard ones.
 #![tactic(auto)]
 
-mod json;
+mod inspection;
 pub mod kinds;
 mod parameters;
 pub mod table;

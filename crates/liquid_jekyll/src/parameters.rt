@@ -26,16 +26,3 @@ pub(crate) static ITEM: [ParameterReflection; 1] = [ParameterReflection {
     description: "The new item.",
     is_optional: false,
 }];
-
-pub(crate) static STYLE: [ParameterReflection; 2] = [
-    ParameterReflection {
-        name: "type",
-        description: "`ordinal` for a day such as 22nd, or nothing.",
-        is_optional: true,
-    },
-    ParameterReflection {
-        name: "style",
-        description: "`US` for the month before the day, or nothing.",
-        is_optional: true,
-    },
-];

@@ -8,13 +8,9 @@ use liquid_plugins::PluginRegistry;
 use std::alloc::{AllocError, Global};
 use std_filters::{Beside, FilterPlugin, StdKind, filters_beside};
 
-const KINDS: [JekyllKind; 17] = [
+const KINDS: [JekyllKind; 13] = [
     JekyllKind::ArrayToSentenceString,
     JekyllKind::CgiEscape,
-    JekyllKind::DateToLongString,
-    JekyllKind::DateToRfc822,
-    JekyllKind::DateToString,
-    JekyllKind::DateToXmlschema,
     JekyllKind::Inspect,
     JekyllKind::Jsonify,
     JekyllKind::NormalizeWhitespace,

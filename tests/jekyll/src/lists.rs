@@ -4,8 +4,7 @@ use rows::rows_hold;
 use std::test::Fail;
 
 /// The filter, its input, its arguments, and the source of what it returns.
-const ROWS: &str =
-    r#"["array_to_sentence_string", [], [], "\"\""]
+const ROWS: &str = r#"["array_to_sentence_string", [], [], "\"\""]
 ["array_to_sentence_string", ["a"], [], "\"a\""]
 ["array_to_sentence_string", ["a", "b"], [], "\"a and b\""]
 ["array_to_sentence_string", ["a", "b", "c"], [], "\"a, b, and c\""]

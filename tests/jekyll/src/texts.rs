@@ -4,8 +4,7 @@ use rows::rows_hold;
 use std::test::Fail;
 
 /// The filter, its input, its arguments, and the source of what it returns.
-const ROWS: &str =
-    r#"["normalize_whitespace", "a  b", [], "\"a b\""]
+const ROWS: &str = r#"["normalize_whitespace", "a  b", [], "\"a b\""]
 ["normalize_whitespace", "  a\tb\n", [], "\"a b\""]
 ["normalize_whitespace", "a\u000bb\fc\rd", [], "\"a b c d\""]
 ["normalize_whitespace", "", [], "\"\""]

@@ -2,19 +2,14 @@
 use Rattle.std.specs.Prelude.{codes, Ok}
 use Rattle.std_filters.specs.meaning.Json.{as_json}
 use Rattle.std_filters.specs.meaning.Sense.{FilterSense}
-use Rattle.std_filters.specs.meaning.Standard.{alone, at_most_two, one, one_or_none, placed}
+use Rattle.std_filters.specs.meaning.Standard.{alone, one, one_or_none, placed}
 use Rattle.std_texts.specs.meaning.Encoding.{url_encoded}
-use Rattle.jekyll_dates.specs.meaning.Dates as dates
 use Rattle.jekyll_values.specs.meaning.Lists as lists
 use Rattle.jekyll_values.specs.meaning.Texts as texts
 use Rattle.liquid_jekyll.specs.declared.kinds.JekyllKind.{JekyllKind}
 use Rattle.liquid_jekyll.specs.declared.kinds.JekyllKind.TheVariants.{
   ArrayToSentenceString,
   CgiEscape,
-  DateToLongString,
-  DateToRfc822,
-  DateToString,
-  DateToXmlschema,
   Inspect,
   Jsonify,
   NormalizeWhitespace,
@@ -32,10 +27,6 @@ use Rattle.liquid_jekyll.specs.meaning.Texts.{inspected}
 abbrev pub jekyll_sense : JekyllKind → FilterSense
 jekyll_sense ArrayToSentenceString = placed (codes "array_to_sentence_string") one_or_none lists.sentenced
 jekyll_sense CgiEscape = alone (codes "cgi_escape") (λ input. Ok (url_encoded input))
-jekyll_sense DateToLongString = placed (codes "date_to_long_string") at_most_two (dates.worded (codes "%B"))
-jekyll_sense DateToRfc822 = alone (codes "date_to_rfc822") (dates.dated_by (codes "%a, %d %b %Y %H:%M:%S %z"))
-jekyll_sense DateToString = placed (codes "date_to_string") at_most_two (dates.worded (codes "%b"))
-jekyll_sense DateToXmlschema = alone (codes "date_to_xmlschema") (dates.dated_by (codes "%Y-%m-%dT%H:%M:%S%:z"))
 jekyll_sense Inspect = alone (codes "inspect") (λ input. Ok (inspected input))
 jekyll_sense Jsonify = alone (codes "jsonify") (λ input. Ok (as_json input))
 jekyll_sense NormalizeWhitespace = alone (codes "normalize_whitespace") (λ input. Ok (texts.normalized input))

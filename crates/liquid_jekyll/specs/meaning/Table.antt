@@ -10,10 +10,6 @@ use Rattle.liquid_jekyll.specs.declared.kinds.JekyllKind.{JekyllKind}
 use Rattle.liquid_jekyll.specs.declared.kinds.JekyllKind.TheVariants.{
   ArrayToSentenceString,
   CgiEscape,
-  DateToLongString,
-  DateToRfc822,
-  DateToString,
-  DateToXmlschema,
   Inspect,
   Jsonify,
   NormalizeWhitespace,
@@ -31,8 +27,8 @@ use Rattle.liquid_jekyll.specs.meaning.Senses.{jekyll_sense}
 -- Jekyll's own filters
 abbrev pub jekyll_kinds : List JekyllKind
 jekyll_kinds =
-    ArrayToSentenceString ∷ CgiEscape ∷ DateToLongString ∷ DateToRfc822 ∷ DateToString ∷ DateToXmlschema ∷ Inspect ∷ Jsonify
-    ∷ NormalizeWhitespace ∷ NumberOfWords ∷ Pop ∷ Push ∷ Shift ∷ Slugify ∷ StripIndex ∷ Unshift ∷ XmlEscape ∷ []
+    ArrayToSentenceString ∷ CgiEscape ∷ Inspect ∷ Jsonify ∷ NormalizeWhitespace ∷ NumberOfWords ∷ Pop ∷ Push ∷ Shift ∷ Slugify
+    ∷ StripIndex ∷ Unshift ∷ XmlEscape ∷ []
 
 -- the standard filters and these, which replace those of the same name
 abbrev pub jekyll_filters : Option DateTime → NameMap (FilterPlugin (Beside StdKind JekyllKind))

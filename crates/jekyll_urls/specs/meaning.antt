@@ -1,4 +1,0 @@
-pub mod Cleaning
-pub mod Parting
-pub mod Dots
-pub mod Urls
