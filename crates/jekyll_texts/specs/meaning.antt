@@ -1,0 +1,6 @@
+pub mod CharacterSets
+pub mod Runs
+pub mod Words
+pub mod Slugs
+pub mod Escape
+pub mod Index

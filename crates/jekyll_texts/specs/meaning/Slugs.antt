@@ -1,0 +1,22 @@
+-- Slugs: texts as parts of a URL that people read.
+use Rattle.std.specs.Prelude.{ℕ, List, chars, encode_utf8_all}
+use Rattle.std.specs.Str.{byte}
+use Rattle.std_strings.specs.meaning.Cases.{lowercased}
+use Rattle.jekyll_texts.specs.declared.character_sets.CharacterSet.{CharacterSet}
+use Rattle.jekyll_texts.specs.declared.character_sets.CharacterSet.TheVariants.{BetweenAscii, BetweenPretty, BetweenWords, WhiteSpace}
+use Rattle.jekyll_texts.specs.declared.slugs.SlugMode.{SlugMode}
+use Rattle.jekyll_texts.specs.declared.slugs.SlugMode.TheVariants.{Raw, Default, Pretty, Ascii}
+use Rattle.jekyll_texts.specs.meaning.CharacterSets.{contains}
+use Rattle.jekyll_texts.specs.meaning.Runs.{with_runs_as, without_ends}
+
+-- the characters that a slug does not keep
+abbrev pub separators : SlugMode → CharacterSet
+separators Raw = WhiteSpace
+separators Default = BetweenWords
+separators Pretty = BetweenPretty
+separators Ascii = BetweenAscii
+
+-- each run of these as one hyphen, without one at each end, in lower case
+abbrev pub slug : SlugMode → List ℕ → List ℕ
+slug mode text =
+    lowercased (without_ends (byte "-") (encode_utf8_all (with_runs_as (contains (separators mode)) (byte "-") (chars text))))

@@ -1,0 +1,5 @@
+//! The tests of Jekyll's filters, each called as a function of values. Each table is one text of lines, a row each.
+
+mod answers;
+mod lists;
+mod texts;
