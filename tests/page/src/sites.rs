@@ -6,7 +6,8 @@ use liquid_files::InMemoryFolder;
 use liquid_scalar::Scalar;
 use liquid_value::{Object, SharedObject, Value};
 use page_site::{
-    Engine, Failure, Item, Partials, Site, Source, add_items, find_clash, read_partials, write_items,
+    Engine, Failure, Item, Partials, Site, Source, add_items, find_clash, read_partials,
+    write_items,
 };
 use rows::{Line, rows_hold};
 use serde_json::Value as Json;
@@ -59,7 +60,10 @@ impl Engine for Echo {
 
 fn add_files(alloc: Global, files: &mut InMemoryFolder, list: &Vec<Json>) -> bool {
     for file in list {
-        let (path, text) = (file.get(0).and_then(Json::as_str), file.get(1).and_then(Json::as_str));
+        let (path, text) = (
+            file.get(0).and_then(Json::as_str),
+            file.get(1).and_then(Json::as_str),
+        );
         let is_added = match path.zip(text) {
             Some((path, text)) => files.add(alloc, path, text.as_bytes()).is_ok(),
             None => false,
@@ -74,7 +78,9 @@ fn add_files(alloc: Global, files: &mut InMemoryFolder, list: &Vec<Json>) -> boo
 fn names_in(alloc: Global, list: Option<&Vec<Json>>) -> Option<Vec<String>> {
     let mut names = Vec::new(alloc);
     for name in list? {
-        names.push(String::from_str(alloc, name.as_str()?).ok()?).ok()?;
+        names
+            .push(String::from_str(alloc, name.as_str()?).ok()?)
+            .ok()?;
     }
     Some(names)
 }
@@ -149,8 +155,7 @@ fn site_holds(alloc: Global, row: &Line) -> bool {
 }
 
 // The files, the folders, the words, the folder of the partials, what is printed, and the files that are there then.
-const SITES: &str =
-    r#"[[["t", "x"]], [], ["t"], "", "0 ", [["o/t", "x<>"]]]
+const SITES: &str = r#"[[["t", "x"]], [], ["t"], "", "0 ", [["o/t", "x<>"]]]
 [[["d/t.html.liquid", "x"]], [], ["d/t.html.liquid"], "", "0 ", [["o/t.html", "x<>"]]]
 [[["s/a.liquid", "x"], ["s/b.css", "y"], ["s/c/d", "---\ntitle: T\n---\nz"]], [["s", ["a.liquid", "b.css", "c/d"]]], ["s"], "", "0 ", [["o/a", "x<>"], ["o/b.css", "y"], ["o/c/d", "zT<>"]]]
 [[["s/a.liquid", "x"], ["s/a", "y"]], [["s", ["a.liquid", "a"]]], ["s"], "", "two go to o/a", [["o/a"]]]
