@@ -1,6 +1,7 @@
 /* The calls of the header, which allow null pointers with a count of 0. The part of the library that is written in Rattle
  * takes none, so each call hands on other pointers in their place. */
 #include "internal.h"
+#include <stddef.h>
 
 /* What an empty array points to. */
 static liquid_outcome nothing;
@@ -38,9 +39,20 @@ static int copy_partials(whole_page *made) {
     return 1;
 }
 
+/* Copies a page. Without LIQUID_NOW it may be of a program for version 2 of the header, and end before its moment. */
+static liquid_page copy_page(const liquid_page *page) {
+    liquid_page copy;
+    int has_moment = page->options < 2 * LIQUID_NOW && (page->options & LIQUID_NOW);
+    size_t size = has_moment ? sizeof copy : offsetof(liquid_page, now);
+    copy.now = liquid_bytes_of(NULL, 0);
+    memcpy(&copy, page, size);
+    copy.now = pointed(copy.now);
+    return copy;
+}
+
 /* Makes a page without null pointers. Returns 0 if there is no memory for it. */
 static int make_whole(const liquid_page *page, whole_page *made) {
-    made->page = *page;
+    made->page = copy_page(page);
     made->copied = NULL;
     made->page.text = pointed(page->text);
     made->page.globals = pointed(page->globals);

@@ -31,7 +31,7 @@
 extern "C" {
 #endif
 
-#define LIQUID_VERSION 2
+#define LIQUID_VERSION 3
 
 /* Bytes of the caller's. No zero byte ends them. */
 typedef struct liquid_bytes {
@@ -52,8 +52,10 @@ enum {
     LIQUID_LENIENT = 2,   /* a name or an index without a value is nil instead of an error */
     LIQUID_STANDARD = 4,  /* the template has the tags, blocks and filters of standard Liquid; without it, the few
                              tags and blocks of liquid_tags, and no filters */
-    LIQUID_DECIMALS = 8   /* a number of the globals with a fraction is a decimal: a string of its digits, with which
+    LIQUID_DECIMALS = 8,  /* a number of the globals with a fraction is a decimal: a string of its digits, with which
                              the standard filters calculate exactly. Without it, it is LIQUID_NO_GLOBALS */
+    LIQUID_NOW = 16       /* the page has the member now, which is the moment that "now" and "today" are for the filter
+                             date. Without it, the member is not read, and they are no dates */
 };
 
 typedef struct liquid_page {
@@ -66,11 +68,14 @@ typedef struct liquid_page {
      * LIQUID_REFUSED. A loop takes a turn for each item and one for its end. 0 means no limit. */
     uint64_t max_turns;
     uint64_t max_bytes;
+    /* With LIQUID_NOW, a date or a date time in any form that the filter date reads, such as "2026-11-30 08:05 +0200".
+     * A page of a program for version 2 of this header ends before this member. */
+    liquid_bytes now;
 } liquid_page;
 
-/* The kinds of an outcome. Of several errors it is that of the first, in this order: the options are known; the
- * template is UTF-8; the globals are UTF-8, JSON, and an object of values; each partial's name and text are UTF-8;
- * the template is read; it is rendered. */
+/* The kinds of an outcome. Of several errors it is that of the first, in this order: the options are known; with
+ * LIQUID_NOW, now is a date or a date time; the template is UTF-8; the globals are UTF-8, JSON, and an object of values;
+ * each partial's name and text are UTF-8; the template is read; it is rendered. */
 enum {
     LIQUID_OK = 0,         /* the whole page was rendered, and is in out */
     LIQUID_UNPARSED = 1,   /* the template can't be read: nothing was rendered */
@@ -82,7 +87,8 @@ enum {
     LIQUID_NO_TEXT = 5,    /* a text is not UTF-8: outcome.which says which */
     LIQUID_NO_MEMORY = 6,  /* malloc or realloc failed: a beginning of the page is in out */
     LIQUID_SHORT = 7,      /* the whole page was rendered, but is longer than out: its beginning is in out */
-    LIQUID_NO_OPTIONS = 8  /* there are no such options: nothing was read */
+    LIQUID_NO_OPTIONS = 8, /* there are no such options: nothing was read */
+    LIQUID_NO_MOMENT = 9   /* now is not a date or a date time, or not UTF-8: nothing else was read */
 };
 
 /* outcome.which: the text that is not UTF-8, or that has the place of the error. */
@@ -160,7 +166,8 @@ static inline liquid_bytes liquid_text(const char *text) {
     return liquid_bytes_of(text, text ? strlen(text) : 0);
 }
 
-/* Returns a page with a template and globals, and with no partials, no options and no limits, for the caller to add. */
+/* Returns a page with a template and globals, and with no partials, no options, no limits and no moment, for the caller
+ * to add. */
 static inline liquid_page liquid_page_of(liquid_bytes text, liquid_bytes globals) {
     liquid_page page;
     page.text = text;
@@ -170,6 +177,7 @@ static inline liquid_page liquid_page_of(liquid_bytes text, liquid_bytes globals
     page.options = 0;
     page.max_turns = 0;
     page.max_bytes = 0;
+    page.now = liquid_bytes_of(NULL, 0);
     return page;
 }
 

@@ -3,6 +3,7 @@
  * can be made to fail. */
 #include "liquid.h"
 #include <assert.h>
+#include <stddef.h>
 #include <stdio.h>
 #include <stdlib.h>
 #include <string.h>
@@ -10,7 +11,7 @@
 #define ROOM 64
 
 /* crates/liquid_c/src/page.rt has the same sizes. */
-static_assert(sizeof(liquid_page) == 72, "liquid_page");
+static_assert(sizeof(liquid_page) == 88, "liquid_page");
 static_assert(sizeof(liquid_partial) == 32, "liquid_partial");
 static_assert(sizeof(liquid_outcome) == 64, "liquid_outcome");
 
@@ -98,8 +99,8 @@ static const row_type rows[] = {
     {"standard", "{{ 'a' | upcase }}", "{}", 0, LIQUID_STANDARD, 0, 0, ROOM, LIQUID_OK, 0, 0, 0, 0, 1, "A", ""},
     {"standard tags", "{% for i in (1..3) reversed %}{% cycle 'a', 'b' %}{{ i }}{% endfor %}", "{}", 0, LIQUID_STANDARD, 0, 0, ROOM, LIQUID_OK, 0, 0, 0, 0, 6, "a3b2a1", ""},
     {"no standard tags", "{% capture x %}{% endcapture %}", "{}", 0, 0, 0, 0, ROOM, LIQUID_UNPARSED, 0, 0, 1, 4, 0, "", NULL},
-    {"all options", "{{ a | upcase }}", "{}", 0, 15, 0, 0, ROOM, LIQUID_OK, 0, 0, 0, 0, 0, "", ""},
-    {"no option", "a", "{}", 0, 16, 0, 0, ROOM, LIQUID_NO_OPTIONS, 0, 0, 0, 0, 0, "", ""},
+    {"all options but a moment", "{{ a | upcase }}", "{}", 0, 15, 0, 0, ROOM, LIQUID_OK, 0, 0, 0, 0, 0, "", ""},
+    {"no option", "a", "{}", 0, 32, 0, 0, ROOM, LIQUID_NO_OPTIONS, 0, 0, 0, 0, 0, "", ""},
     {"all bits", "a", "{}", 0, UINT32_MAX, 0, 0, ROOM, LIQUID_NO_OPTIONS, 0, 0, 0, 0, 0, "", ""},
     {"turns", "{% for i in (1..3) %}{{ i }}{% endfor %}", "{}", 0, 0, 4, 0, ROOM, LIQUID_OK, 0, 0, 0, 0, 3, "123", ""},
     {"too many turns", "{% for i in (1..3) %}{{ i }}{% endfor %}", "{}", 0, 0, 2, 0, ROOM, LIQUID_REFUSED, 0, 0, 1, 4, 2, "12", NULL},
@@ -122,6 +123,7 @@ static liquid_page page_of(const row_type *row) {
     page.text = of(row->text), page.globals = of(row->globals);
     page.partials = partials, page.partial_count = row->partials;
     page.options = row->options, page.max_turns = row->turns, page.max_bytes = row->bytes;
+    page.now = of(NULL);
     return page;
 }
 
@@ -243,7 +245,7 @@ static void try_texts(void) {
 /* Null pointers with a count of 0, wherever a call takes a pointer with a count. */
 static void try_nulls(void) {
     static const char *name = "null pointers";
-    liquid_page page = {{NULL, 0}, {NULL, 0}, NULL, 0, LIQUID_STANDARD, 0, 0};
+    liquid_page page = {{NULL, 0}, {NULL, 0}, NULL, 0, LIQUID_STANDARD, 0, 0, {NULL, 0}};
     const liquid_partial parts[] = {{{NULL, 0}, liquid_text("empty")}, {liquid_text("a"), {NULL, 0}}, {liquid_text("b"), liquid_text("B")}};
     liquid_bytes globals[3] = {{NULL, 0}, liquid_text("{}"), {NULL, 0}};
     liquid_outcome each[3];
@@ -288,6 +290,95 @@ static void try_limits(void) {
     }
 }
 
+typedef struct {
+    const char *name, *now, *text;
+    uint32_t options, kind;
+    const char *written;
+} moment_type;
+
+static const char *const no_moment = "liquid: now is not a date or a date time\n";
+static const char *const clock_text = "{{ 'now' | date: '%Y-%m-%d %H:%M:%S %z' }}";
+
+static const moment_type moments[] = {
+    {"a date time", "2024-02-29 04:05:06 +0100", clock_text, LIQUID_STANDARD | LIQUID_NOW, LIQUID_OK, "2024-02-29 04:05:06 +0100"},
+    {"a date time of RFC 3339", "2024-02-29T23:30:00-05:30", clock_text, LIQUID_STANDARD | LIQUID_NOW, LIQUID_OK, "2024-02-29 23:30:00 -0530"},
+    {"a date", "2024-02-29", clock_text, LIQUID_STANDARD | LIQUID_NOW, LIQUID_OK, "2024-02-29 00:00:00 +0000"},
+    {"a date in words", "Thu, 29 Feb 2024 04:05:06 GMT", clock_text, LIQUID_STANDARD | LIQUID_NOW, LIQUID_OK, "2024-02-29 04:05:06 +0000"},
+    {"seconds since 1970", "86400", clock_text, LIQUID_STANDARD | LIQUID_NOW, LIQUID_OK, "1970-01-02 00:00:00 +0000"},
+    {"today", "2024-02-29 04:05", "{{ 'today' | date: '%e %B' }}", LIQUID_STANDARD | LIQUID_NOW, LIQUID_OK, "29 February"},
+    {"no moment", "2024-02-29", clock_text, LIQUID_STANDARD, LIQUID_OK, "now"},
+    {"a bad moment that is not asked for", "x", clock_text, LIQUID_STANDARD, LIQUID_OK, "now"},
+    {"no filters", "2024-02-29", "a", LIQUID_NOW, LIQUID_OK, "a"},
+    {"all options", "2024-02-29", "{{ 'now' | date: '%F' }}", 31, LIQUID_OK, "2024-02-29"},
+    {"a day that no calendar has", "2023-02-29", "{{", LIQUID_STANDARD | LIQUID_NOW, LIQUID_NO_MOMENT, ""},
+    {"words", "in a while", "{{", LIQUID_STANDARD | LIQUID_NOW, LIQUID_NO_MOMENT, ""},
+    {"now is now", "now", "{{", LIQUID_STANDARD | LIQUID_NOW, LIQUID_NO_MOMENT, ""},
+    {"not UTF-8", "2024-02-29\xff", "\xff", LIQUID_STANDARD | LIQUID_NOW, LIQUID_NO_MOMENT, ""},
+    {"no text", "", "a", LIQUID_STANDARD | LIQUID_NOW, LIQUID_NO_MOMENT, ""},
+    {"a null pointer", NULL, "a", LIQUID_STANDARD | LIQUID_NOW, LIQUID_NO_MOMENT, ""},
+    {"a bad moment without filters", "x", "a", LIQUID_NOW, LIQUID_NO_MOMENT, ""},
+    {"a bad moment with unknown options", "x", "a", 32 | LIQUID_NOW, LIQUID_NO_OPTIONS, ""},
+};
+
+/* The moment of a page, by one call and by a call over many globals. */
+static void try_moment(const moment_type *row) {
+    static uint8_t all[2 * ROOM];
+    liquid_page page = liquid_page_of(of(row->text), of("{}"));
+    liquid_bytes globals[2];
+    liquid_outcome each[2];
+    size_t len = strlen(row->written), said = row->kind == LIQUID_NO_MOMENT ? strlen(no_moment) : 0, whole;
+    page.options = row->options, page.now = of(row->now);
+    globals[0] = globals[1] = page.globals;
+    blocks = 0;
+    memset(message, '#', sizeof message);
+    liquid_render(&page, out, sizeof out, message, sizeof message, &got);
+    check(got.kind == row->kind, row->name, "kind");
+    check(got.written == len && got.needed == len && !memcmp(out, row->written, len), row->name, "what was written");
+    check(got.message_len == said && !memcmp(message, no_moment, said) && message[said] == '#', row->name, "message");
+    check(!got.which && !got.partial && !got.line && !got.column && !got.limit, row->name, "place");
+    memset(message, '#', sizeof message);
+    whole = liquid_render_each(&page, globals, 2, all, sizeof all, message, sizeof message, each, 2);
+    check(whole == (row->kind == LIQUID_OK ? 2 : 0), row->name, "how many are whole");
+    check(!memcmp(&each[0], &got, sizeof got) && !memcmp(&each[1], &got, sizeof got), row->name, "each outcome");
+    check(!memcmp(all, row->written, len) && !memcmp(all + len, row->written, len), row->name, "each page");
+    check(!memcmp(message, no_moment, said) && message[said] == '#', row->name, "message of each");
+    check(blocks == 0, row->name, "a block is left");
+}
+
+/* Each growth fails in turn while a moment is read. */
+static void try_growths_of_moments(void) {
+    static const char *name = "growths of a moment", *now = "2024-02-29 04:05:06 +0100";
+    liquid_page page = liquid_page_of(of(clock_text), of("{}"));
+    page.options = LIQUID_STANDARD | LIQUID_NOW, page.now = of(now);
+    for (failing = 1;; failing++) {
+        growths = blocks = 0;
+        liquid_render(&page, out, sizeof out, message, sizeof message, &got);
+        check(blocks == 0, name, "a block is left");
+        check(got.kind == LIQUID_NO_MEMORY || (got.kind == LIQUID_OK && got.written == strlen(now)), name, "kind");
+        check(!memcmp(out, now, got.written), name, "a beginning of the page");
+        if (growths < failing) break;
+    }
+    check(got.kind == LIQUID_OK && failing > 20, name, "too few");
+    failing = 0;
+}
+
+/* A page of a program for version 2 of the header ends before its moment, and nothing after it is read. */
+static void try_earlier_page(void) {
+    static const char *name = "a page of version 2";
+    liquid_page whole = liquid_page_of(of(clock_text), of("{}"));
+    liquid_page *page = (liquid_page *)__real_malloc(offsetof(liquid_page, now));
+    check(page != NULL && offsetof(liquid_page, now) == 72, name, "its size");
+    if (!page) return;
+    whole.options = LIQUID_STANDARD;
+    memcpy(page, &whole, offsetof(liquid_page, now));
+    liquid_render(page, out, sizeof out, message, sizeof message, &got);
+    check(got.kind == LIQUID_OK && got.written == 3 && !memcmp(out, "now", 3), name, "the page");
+    page->options = UINT32_MAX;
+    liquid_render(page, out, sizeof out, message, sizeof message, &got);
+    check(got.kind == LIQUID_NO_OPTIONS, name, "all bits");
+    __real_free(page);
+}
+
 /* One template over many globals, with as many outcomes and less room than they want. */
 static void try_each(void) {
     static const row_type row = {"each", "{% include 'a', y: x %}", "\xff", 1, 0, 0, 0, 9, 0, 0, 0, 0, 0, 0, "", ""};
@@ -310,7 +401,7 @@ static void try_each(void) {
     check(whole == 1 && each[0].kind == LIQUID_OK && each[1].kind == UINT32_MAX, row.name, "fewer outcomes");
     whole = liquid_render_each(&page, globals, 0, out, sizeof out, message, 0, each, 0);
     check(whole == 0, row.name, "no globals");
-    page.options = 16;
+    page.options = 32;
     whole = liquid_render_each(&page, globals, 2, out, sizeof out, message, sizeof message, each, 4);
     check(whole == 0 && each[0].kind == LIQUID_NO_OPTIONS && each[1].kind == LIQUID_NO_OPTIONS, row.name, "no options");
     check(each[0].needed == 0 && each[0].written == 0 && each[2].kind == UINT32_MAX, row.name, "nothing written");
@@ -353,9 +444,12 @@ int main(void) {
     try_texts();
     try_nulls();
     try_limits();
+    for (i = 0; i < sizeof moments / sizeof moments[0]; i++) try_moment(&moments[i]);
+    try_growths_of_moments();
+    try_earlier_page();
     try_each();
     try_growths();
     try_growths_of_each();
-    printf("c: %zu rows, %d failed\n", sizeof rows / sizeof rows[0], failed);
+    printf("c: %zu rows, %d failed\n", sizeof rows / sizeof rows[0] + sizeof moments / sizeof moments[0], failed);
     return failed != 0;
 }

@@ -15,7 +15,7 @@ from typing import IO, Any
 from .errors import LiquidError, TemplateNotFound
 from .library import Options, Partials, Source, render_each_source, render_source
 from .loaders import Loader
-from .values import Default, Globals, Text, json_of
+from .values import Default, Globals, Now, Text, json_of
 
 __all__ = ["Environment", "Template"]
 
@@ -42,11 +42,12 @@ class Environment:
         max_turns: int = 0,
         max_bytes: int = 0,
         max_memory: int = 0,
+        now: Now = None,
         default: Default = None,
     ) -> None:
         self.loader = loader
         self.default = default
-        self.options = Options(sandboxed, lenient, standard, max_turns, max_bytes, max_memory)
+        self.options = Options(sandboxed, lenient, standard, max_turns, max_bytes, max_memory, now)
         self._kept: dict[str, Template] = {}
         self._partials = Partials({})
 

@@ -49,6 +49,8 @@ class Kind(enum.IntEnum):
     """Memory ran out, or the page took more than ``max_memory``."""
     NO_OPTIONS = 8
     """The library has no such options: it is of another version than the package."""
+    NO_MOMENT = 9
+    """``now`` is not a date or a date time."""
 
 
 class LiquidError(Exception):
@@ -97,9 +99,10 @@ class LiquidError(Exception):
     def explain(self) -> str:
         """Returns a text of several lines: the name of the template or partial, the line and the column, the source
         line, a caret under the column, and the message. What is not known is left out. Of a long line only a part
-        is shown, and a control character is shown as ``?``. An error of the globals has the name ``globals``.
+        is shown, and a control character is shown as ``?``. An error of the globals has the name ``globals``, and one of
+        the moment the name ``now``.
         """
-        name = "globals" if self.kind in (Kind.BAD_JSON, Kind.NO_GLOBALS) else self.template
+        name = _SOURCES.get(self.kind, self.template)
         place = [] if self.line is None else [f"line {self.line}", f"column {self.column}"]
         lines = [", ".join(place if name is None else [f"in {_visible(name)}", *place])]
         if self.source_line is not None and self.column is not None:
@@ -115,6 +118,10 @@ class LiquidError(Exception):
         first = max(0, before - _SHOWN)
         margin = "".join("\t" if it == "\t" else " " for it in line[first:before])
         return [f"  {_visible(line[first : before + _SHOWN])}", f"  {margin}^"]
+
+
+# What has the error, if it is not a template.
+_SOURCES = {Kind.BAD_JSON: "globals", Kind.NO_GLOBALS: "globals", Kind.NO_MOMENT: "now"}
 
 
 def _visible(text: str) -> str:
@@ -149,7 +156,7 @@ class LimitError(RenderError):
 
 
 class DataError(LiquidError):
-    """The globals are not the JSON of an object of values, or a text is not UTF-8."""
+    """The globals are not the JSON of an object of values, a text is not UTF-8, or ``now`` is not a date or a date time."""
 
 
 class MemoryLimitError(LiquidError):
@@ -170,6 +177,7 @@ _CLASSES = {
     Kind.NO_GLOBALS: DataError,
     Kind.NO_TEXT: DataError,
     Kind.NO_MEMORY: MemoryLimitError,
+    Kind.NO_MOMENT: DataError,
 }
 
 

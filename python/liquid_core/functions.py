@@ -5,7 +5,7 @@ from collections.abc import Iterable, Mapping
 
 from .errors import LiquidError
 from .library import Options, Partials, Source, render_each_source, render_source
-from .values import Default, Globals, Text, json_of
+from .values import Default, Globals, Now, Text, json_of
 
 __all__ = ["render", "render_each"]
 
@@ -21,6 +21,7 @@ def render(
     max_bytes: int = 0,
     *,
     max_memory: int = 0,
+    now: Now = None,
     default: Default = None,
 ) -> str:
     """Renders a template over globals, and returns the page.
@@ -38,11 +39,13 @@ def render(
     ``max_turns`` turns of tags and blocks, or writes more than ``max_bytes`` bytes of UTF-8, is stopped. The library
     holds at most ``max_memory`` bytes at any moment; a page that takes more ends with a ``MemoryLimitError``. The
     arguments and the page that is returned are Python's memory, and don't count. 0 means no limit.
+    ``now`` is the moment that ``"now"`` and ``"today"`` are for the filter ``date``: a date time with a time zone, or a
+    string that the filter reads. Without it, they are no dates.
 
     Raises ``LiquidError`` if the page was not rendered to its end, and ``TypeError`` or ``ValueError``, with the path
     of the value, for globals that a template can't have.
     """
-    options = Options(sandboxed, lenient, standard, max_turns, max_bytes, max_memory)
+    options = Options(sandboxed, lenient, standard, max_turns, max_bytes, max_memory, now)
     return render_source(Source(template, Partials(partials), options), json_of(globals, default)).decode()
 
 
@@ -57,6 +60,7 @@ def render_each(
     max_bytes: int = 0,
     *,
     max_memory: int = 0,
+    now: Now = None,
     default: Default = None,
 ) -> list[str | LiquidError]:
     """Renders a template over each of these globals, and returns the pages in their order.
@@ -68,6 +72,6 @@ def render_each(
     ``render`` returns over these globals; in the place of a page that was not rendered to its end is the
     ``LiquidError`` that ``render`` raises.
     """
-    options = Options(sandboxed, lenient, standard, max_turns, max_bytes, max_memory)
+    options = Options(sandboxed, lenient, standard, max_turns, max_bytes, max_memory, now)
     texts = (json_of(names, default, f"globals[{number}]") for number, names in enumerate(globals))
     return render_each_source(Source(template, Partials(partials), options), texts)

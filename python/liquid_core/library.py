@@ -13,12 +13,12 @@ from pathlib import Path
 from typing import Any
 
 from .errors import Kind, LiquidError, class_of, partial_of
-from .values import Text
+from .values import Now, Text, moment_of
 
 __all__ = ["Options", "Partials", "Source", "proved", "render_each_source", "render_source"]
 
-_VERSION = 2
-_SANDBOXED, _LENIENT, _STANDARD, _DECIMALS = 1, 2, 4, 8
+_VERSION = 3
+_SANDBOXED, _LENIENT, _STANDARD, _DECIMALS, _NOW = 1, 2, 4, 8, 16
 _OK = 0
 # The texts of a page that an outcome names: the globals, the name of a partial, its text.
 _GLOBALS, _OF_PARTIALS = 1, (2, 3)
@@ -47,6 +47,7 @@ class _Page(ctypes.Structure):
         ("options", ctypes.c_uint32),
         ("max_turns", ctypes.c_uint64),
         ("max_bytes", ctypes.c_uint64),
+        ("now", _Bytes),
     ]
 
 
@@ -96,16 +97,22 @@ class Options:
     max_turns: int = 0
     max_bytes: int = 0
     max_memory: int = 0
+    now: Now = None
 
     def __post_init__(self) -> None:
         for limit in (self.max_turns, self.max_bytes, self.max_memory):
             if not 0 <= limit < 1 << 64:
                 raise ValueError("a limit is a number from 0 to 2**64 - 1")
+        moment_of(self.now)
 
     def bits(self) -> int:
         """Returns the options as the library takes them."""
         chosen = _SANDBOXED * bool(self.sandboxed) | _LENIENT * bool(self.lenient) | _STANDARD * bool(self.standard)
-        return _DECIMALS | chosen
+        return _DECIMALS | chosen | _NOW * (self.now is not None)
+
+    def moment(self) -> bytes:
+        """Returns the text of the moment, if there is one."""
+        return _encoded(moment_of(self.now) or "")
 
 
 class Partials:
@@ -141,8 +148,8 @@ class Source:
     def page(self, names: bytes) -> _Page:
         """Returns the page over these globals."""
         options, partials = self.options, self.partials
-        limits = options.bits(), options.max_turns, options.max_bytes
-        return _Page(_bytes(self.template), _bytes(names), partials.array, len(partials.texts), *limits)
+        chosen = options.bits(), options.max_turns, options.max_bytes, _bytes(options.moment())
+        return _Page(_bytes(self.template), _bytes(names), partials.array, len(partials.texts), *chosen)
 
     def room(self, texts: Sequence[bytes]) -> int:
         """Returns how many bytes the pages over these globals are likely to have at most."""

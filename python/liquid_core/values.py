@@ -22,11 +22,12 @@ from pathlib import PurePath
 from typing import Any, Callable, Optional, Union
 from uuid import UUID
 
-__all__ = ["Default", "Globals", "Text", "json_of"]
+__all__ = ["Default", "Globals", "Now", "Text", "json_of", "moment_of"]
 
 Text = Union[str, bytes]
 Globals = Union[Mapping[str, Any], str, bytes]
 Default = Optional[Callable[[Any], Any]]
+Now = Union[str, datetime, None]
 
 _DEEPEST = 127
 _SIMPLE = frozenset([str, int, bool, type(None)])
@@ -175,6 +176,23 @@ def _moment(value: datetime) -> str:
     if abs(offset) >= _FARTHEST or offset % timedelta(minutes=1):
         raise _Unfit(ValueError, f"has the offset {value:%z}, which is not whole minutes below 20 hours")
     return f"{text} {value:%z}"
+
+
+def moment_of(now: Now) -> str | None:
+    """Returns the moment of a page as a text that the filter ``date`` reads. A string is returned as it is.
+
+    Raises ``ValueError`` for a date time without a time zone, and for one whose offset the filter can't read.
+    """
+    if now is None or isinstance(now, str):
+        return now
+    if not isinstance(now, datetime):
+        raise TypeError(f"now is {_with_article(now)}, and neither a str nor a datetime")
+    if now.utcoffset() is None:
+        raise ValueError("now has no time zone")
+    try:
+        return _moment(now)
+    except _Unfit as unfit:
+        raise unfit.error("now") from None
 
 
 def _members(value: Any) -> Mapping[str, Any] | None:

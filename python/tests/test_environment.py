@@ -8,6 +8,7 @@ import re
 import tempfile
 import threading
 import unittest
+from datetime import datetime, timezone
 from unittest import mock
 
 import liquid_core
@@ -34,6 +35,8 @@ class Environments(unittest.TestCase):
         ({}, "{% assign x = 2 %}{{ x }}", {"x": 1}, "2"),
         ({"sandboxed": True, "standard": False}, "{% assign x = 2 %}{{ x }}", {"x": 1}, "1"),
         ({"max_turns": 100, "max_bytes": 4, "max_memory": 1 << 20}, "{{ 'rain' }}", {}, "rain"),
+        ({"now": "2024-02-29 04:05"}, "{{ 'now' | date: '%e %B' }}{{ now }}", {"now": "!"}, "29 February!"),
+        ({"now": datetime(2024, 2, 29, tzinfo=timezone.utc)}, "{{ 'today' | date: '%F %z' }}", {}, "2024-02-29 +0000"),
     ]
 
     def test_rows(self):
@@ -44,7 +47,7 @@ class Environments(unittest.TestCase):
     def test_options_are_keywords(self):
         with self.assertRaises(TypeError):
             Environment(None, True)
-        for wrong in ({"max_turns": -1}, {"max_bytes": 2**64}, {"max_memory": -1}):
+        for wrong in ({"max_turns": -1}, {"max_bytes": 2**64}, {"max_memory": -1}, {"now": datetime(2024, 2, 29)}):
             with self.assertRaises(ValueError):
                 Environment(**wrong)
 

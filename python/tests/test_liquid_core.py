@@ -6,6 +6,7 @@ import subprocess
 import sys
 import threading
 import unittest
+from datetime import date, datetime, timedelta, timezone
 from decimal import Decimal
 
 from liquid_core import Kind, LiquidError, proved, render, render_each
@@ -42,6 +43,51 @@ class Pages(unittest.TestCase):
         for template, names, options, page in self.ROWS:
             with self.subTest(template):
                 self.assertEqual(render(template, names, **options), page)
+
+
+class Moments(unittest.TestCase):
+    CLOCK = "{{ 'now' | date: '%Y-%m-%d %H:%M:%S.%L %z' }}"
+    # a moment, and what the filter writes for it
+    ROWS = [
+        ("2024-02-29 04:05:06 +0100", "2024-02-29 04:05:06.000 +0100"),
+        ("2024-02-29T04:05:06.789Z", "2024-02-29 04:05:06.789 +0000"),
+        ("2024-02-29", "2024-02-29 00:00:00.000 +0000"),
+        (datetime(2024, 2, 29, 4, 5, 6, tzinfo=timezone.utc), "2024-02-29 04:05:06.000 +0000"),
+        (datetime(2024, 2, 29, 4, 5, 6, 789000, timezone(-timedelta(hours=5, minutes=30))), "2024-02-29 04:05:06.789 -0530"),
+    ]
+
+    def test_rows(self):
+        for now, page in self.ROWS:
+            with self.subTest(now):
+                self.assertEqual(render(self.CLOCK, {}, standard=True, now=now), page)
+                self.assertEqual(render_each(self.CLOCK, [{}, {}], standard=True, now=now), [page, page])
+
+    def test_without_a_moment(self):
+        self.assertEqual(render("{{ 'now' | date: '%Y' }} {{ 'today' | date: '%Y' }}", {}, standard=True), "now today")
+
+    def test_texts_that_are_no_moments(self):
+        for now in ("", "now", "in a while", "2023-02-29", "\ud800"):
+            with self.subTest(now):
+                with self.assertRaises(LiquidError) as caught:
+                    render("{{", {}, standard=True, now=now)
+                error = caught.exception
+                self.assertEqual((error.kind, error.line, error.rendered), (Kind.NO_MOMENT, None, ""))
+                self.assertEqual(error.message, "liquid: now is not a date or a date time")
+                self.assertEqual(error.explain(), f"in now\n{error.message}")
+                pages = render_each("{{", [{}, {}], standard=True, now=now)
+                self.assertEqual([(it.kind, it.message) for it in pages], [(Kind.NO_MOMENT, error.message)] * 2)
+
+    def test_what_is_no_moment_raises_before_a_call(self):
+        wrong = [
+            (datetime(2024, 2, 29), ValueError),
+            (datetime(2024, 2, 29, tzinfo=timezone(timedelta(hours=22))), ValueError),
+            (date(2024, 2, 29), TypeError),
+            (0, TypeError),
+            (b"2024-02-29", TypeError),
+        ]
+        for now, error in wrong:
+            with self.subTest(now), self.assertRaisesRegex(error, "^now (is|has) "):
+                render("", {}, now=now)
 
 
 class Errors(unittest.TestCase):

@@ -1,3 +1,4 @@
 pub mod RunLemmas
 pub mod EscapeLemmas
 pub mod IndexLemmas
+pub mod NumeralLemmas

@@ -4,3 +4,5 @@ pub mod Words
 pub mod Slugs
 pub mod Escape
 pub mod Index
+pub mod Spaces
+pub mod Numerals

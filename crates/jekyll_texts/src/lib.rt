@@ -4,11 +4,15 @@
 mod character_sets;
 mod escape;
 mod index;
+mod numerals;
 mod runs;
 mod slugs;
+mod spaces;
 mod words;
 
 pub use escape::xml_escape;
 pub use index::strip_index;
+pub use numerals::numeral;
 pub use slugs::{SlugMode, slugify};
+pub use spaces::strip_spaces;
 pub use words::{WordMode, normalize_whitespace, number_of_words};

@@ -2,7 +2,11 @@
 #![tactic(auto)]
 
 mod lists;
+mod numbers;
 mod texts;
 
 pub use lists::{array_to_sentence_string, pop, push, shift, unshift};
-pub use texts::{normalize_whitespace, number_of_words, slugify, strip_index, xml_escape};
+pub use numbers::to_integer;
+pub use texts::{
+    normalize_whitespace, number_of_words, slugify, strip_index, uri_escape, xml_escape,
+};

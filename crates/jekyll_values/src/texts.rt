@@ -7,6 +7,7 @@ ghost use Rattle.jekyll_values.specs.meaning.Texts as Spec;
 
 use jekyll_texts as jekyll;
 use jekyll_texts::{SlugMode, WordMode};
+use jekyll_urls::{UrlPart, clean};
 use liquid_error::Error;
 use liquid_scalar::ScalarOf;
 use liquid_value::{Value, ValueCow};
@@ -30,6 +31,20 @@ pub fn xml_escape(alloc: Global, input: &Value) -> Result<Value, Error>
     let text = input.to_kstr(alloc)?;
     let escaped = jekyll::xml_escape(alloc, text.as_str())?;
     Ok(Value::Scalar(ScalarOf::Str(escaped)))
+}
+
+/// Returns the text with an escape of each character that doesn't mean itself in a URL. Nil is kept.
+pub fn uri_escape(alloc: Global, input: &Value) -> Result<Value, Error>
+    ensures { Gives tree_of result (Ok (Spec.uri_escaped (tree_of input.now))) }
+{
+    match input {
+        Value::Nil => Ok(Value::Nil),
+        other => {
+            let text = other.to_kstr(alloc)?;
+            let escaped = clean(alloc, text.as_str(), UrlPart::Whole)?;
+            Ok(Value::Scalar(ScalarOf::Str(escaped)))
+        }
+    }
 }
 
 /// Returns the text with a slash in place of the first `/index.html` or `/index.htm` that ends a line, or nil if the

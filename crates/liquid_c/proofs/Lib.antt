@@ -1,4 +1,5 @@
 pub mod AskedLemmas
 pub mod ChosenLemmas
 pub mod LeavesLemmas
+pub mod MomentLemmas
 pub mod TurnLemmas

@@ -30,7 +30,6 @@ use Rattle.std.proofs.Common.{
 use Rattle.std.proofs.Math.Dec.{eqb-suc-zero}
 use Rattle.std.proofs.lemmas.List.{drop-drop, drop-set-lt, map-append, take-map, take_more, take_more_set}
 use Rattle.liquid_c.specs.declared.page.Outcome.{Outcome}
-use Rattle.liquid_c.specs.meaning.Outcomes.{outcome_alone}
 use Rattle.liquid_c.specs.meaning.Turns.{AllTurns, InTurn, begun, rendered, one_if_whole}
 use Rattle.liquid_c.specs.steps.Chosen.{IsRefused}
 
@@ -72,16 +71,14 @@ none_counted : (k : ℕ) → 1 ≤ k → 0 ≡ one_if (nat_eq k 0)
 none_counted zero some = absurd (omega (arith, some))
 none_counted (suc k) some = sym (ap one_if (eqb-suc-zero k))
 
-pub refused_turn : {X : Type 0} (f : X → List ℕ) (kind : ℕ) (out : List ℕ) (xs : List X) (os : List Outcome) (n : ℕ) (o : Outcome)
-    → n < length xs → n < length os → 1 ≤ kind → InTurn (IsRefused kind) out (map f (take n xs)) (take n os) out 0 0
-    → o ≡ outcome_alone kind → InTurn (IsRefused kind) out (map f (take (n + 1) xs))
-    (take (n + 1) (set os n o)) out 0 0
-refused_turn f kind out [] os n o within room some turns is = absurd (omega (arith, within))
-refused_turn f kind out (x ∷ xs) os n o within room some turns is =
-    let used : 0 + o.written ≡ 0 = ap (λ (it : Outcome). 0 + it.written) is in
-    subst (λ u. InTurn (IsRefused kind) out (map f (take (n + 1) (x ∷ xs))) (take (n + 1) (set os n o)) out u 0) used
-    (next_turn f (IsRefused kind) out (x ∷ xs) os out out 0 0 n 0 x o within room turns refl (is, refl)
-    (none_counted o.kind (subst (λ k. 1 ≤ k) (sym (ap (λ (it : Outcome). it.kind) is)) some)))
+pub refused_turn : {X : Type 0} (f : X → List ℕ) (o : Outcome) (out : List ℕ) (xs : List X) (os : List Outcome) (n : ℕ)
+    → n < length xs → n < length os → 1 ≤ o.kind → o.written ≡ 0 → InTurn (IsRefused o) out (map f (take n xs)) (take n os) out 0 0
+    → InTurn (IsRefused o) out (map f (take (n + 1) xs)) (take (n + 1) (set os n o)) out 0 0
+refused_turn f o out [] os n within room some nothing turns = absurd (omega (arith, within))
+refused_turn f o out (x ∷ xs) os n within room some nothing turns =
+    subst (λ u. InTurn (IsRefused o) out (map f (take (n + 1) (x ∷ xs))) (take (n + 1) (set os n o)) out u 0)
+    (ap (λ w. 0 + w) nothing)
+    (next_turn f (IsRefused o) out (x ∷ xs) os out out 0 0 n 0 x o within room turns refl (refl, refl) (none_counted o.kind some))
 
 -- turns of which P is said, where P leads to Q
 module _ {P Q : List ℕ → List ℕ → List ℕ → Outcome → Type 0}

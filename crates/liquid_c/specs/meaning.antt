@@ -1,4 +1,5 @@
 pub mod Languages
+pub mod Moments
 pub mod Options
 pub mod Outcomes
 pub mod Turns

@@ -10,7 +10,7 @@ ghost use Rattle.liquid_c.specs.steps.Prepared.{AskedComesTo, LeavesOf};
 
 use crate::languages::{Chosen, choose_language, page_options};
 use crate::page::{Outcome, Page};
-use crate::rendering::{NO_MEMORY, NO_OPTIONS, finish, refused};
+use crate::rendering::{NO_MEMORY, NO_OPTIONS, finish, refuse_moment, refused};
 use crate::repeated::RenderOver;
 use liquid_core::Fresh;
 use liquid_core::parser::{Discreet, Language, ParseBlock, ParseFilter, ParseTag};
@@ -33,9 +33,10 @@ pub fn render_each(
 ) -> usize
     ensures { TurnsOver (LeavesOver page.now) globals.now out.old out.new outcomes.old outcomes.new result }
 {
-    match choose_language(alloc, page.options) {
-        Chosen::NoOptions => refuse_each(NO_OPTIONS, globals, outcomes),
-        Chosen::NoMemory => refuse_each(NO_MEMORY, globals, outcomes),
+    match choose_language(alloc, page) {
+        Chosen::NoOptions => refuse_each(refused(NO_OPTIONS), globals, outcomes),
+        Chosen::NoMoment => refuse_each(refuse_moment(message), globals, outcomes),
+        Chosen::NoMemory => refuse_each(refused(NO_MEMORY), globals, outcomes),
         Chosen::Plain(language) => render_each_in::<(), _, _, _>(
             alloc, &language, page, globals, out, message, outcomes,
         ),
@@ -126,13 +127,14 @@ fn finish_turn(
     finish(alloc, asked, rendered, room, message)
 }
 
-/// Writes an outcome of this kind for each of these globals, as far as there are outcomes. No page is whole.
-fn refuse_each(kind: u32, globals: &[&[u8]], outcomes: &mut [Outcome]) -> usize
-    requires { 1 ≤ kind }
-    ensures { (out : List ℕ) → TurnsOver (IsRefused kind) globals.now out out outcomes.old outcomes.new result }
+/// Writes this outcome for each of these globals, as far as there are outcomes. No page is whole.
+fn refuse_each(refusal: Outcome, globals: &[&[u8]], outcomes: &mut [Outcome]) -> usize
+    requires error { 1 ≤ refusal.kind }
+    requires nothing { refusal.written ≡ 0 }
+    ensures { (out : List ℕ) → TurnsOver (IsRefused refusal) globals.now out out outcomes.old outcomes.new result }
 {
     for place in 0..fewer(globals.len(), outcomes.len()) {
-        outcomes[place] = refused(kind);
+        outcomes[place] = refusal;
     }
     0
 }

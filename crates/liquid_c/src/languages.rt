@@ -1,15 +1,17 @@
 //! The language of a page, and how it is rendered, by its options.
-ghost use Rattle.std.specs.Prelude.{◌≡◌, if◌then◌else◌, IfOk, None};
+ghost use Rattle.std.specs.Prelude.{◌≡◌, if◌then◌else◌, IfOk};
 ghost use Rattle.std.specs.FinMap.{empty};
 ghost use Rattle.liquid_tags.specs.meaning.Languages.{meaning_of};
 ghost use Rattle.liquid_std.specs.meaning.Languages.{meaning_of as standard_meaning};
 ghost use Rattle.std_filters.specs.meaning.Registered.{standard_filters};
 ghost use Rattle.liquid_c.specs.meaning.Languages.{filter_made, plain_language, standard_language};
 ghost use Rattle.liquid_c.specs.meaning.Options.{has_bit, has_standard, limit_of, page_frame, page_options};
-ghost use Rattle.liquid_c.specs.steps.Chosen.{IsChosen};
+ghost use Rattle.liquid_c.specs.steps.Chosen.{IsChosen, IsChosenAt};
 
-use crate::page::{DECIMALS, LENIENT, Page, SANDBOXED, STANDARD};
+use crate::moments::{MomentFault, given_moment};
+use crate::page::{DECIMALS, LENIENT, NOW, Page, SANDBOXED, STANDARD};
 use liquid_core::parser::{Language, PluginRegistry};
+use liquid_dates::DateTime;
 use liquid_pages::{PageFrame, PageOptions};
 use liquid_std::{StdBlocks, StdTags};
 use liquid_tags::{Blocks, Tags};
@@ -28,13 +30,15 @@ pub(crate) type StandardLanguage = Language<FilterPlugin<StdKind>, StdTags, StdB
 pub(crate) enum Chosen {
     /// There are no such options.
     NoOptions,
+    /// The moment of the page is none.
+    NoMoment,
     /// Memory ran out.
     NoMemory,
     Plain(Rc<PlainLanguage>),
     Standard(Rc<StandardLanguage>),
 }
 
-fn has_bit(options: u32, bit: u32) -> bool
+pub(crate) fn has_bit(options: u32, bit: u32) -> bool
     ensures { result ≡ has_bit options bit }
 {
     options & bit != 0
@@ -80,23 +84,37 @@ fn plain_language(alloc: Global) -> Result<Rc<PlainLanguage>, AllocError>
     Ok(Rc::new(alloc, language)?)
 }
 
-/// Returns the standard language.
-fn standard_language(alloc: Global) -> Result<Rc<StandardLanguage>, AllocError>
-    ensures { IfOk result (λ language. standard_meaning filter_made language.value ≡ standard_language) }
+/// Returns the standard language, in which `now` and `today` are this moment, if there is one.
+fn standard_language(
+    alloc: Global,
+    now: Option<DateTime>,
+) -> Result<Rc<StandardLanguage>, AllocError>
+    ensures { IfOk result (λ language. standard_meaning filter_made language.value ≡ standard_language now) }
 {
-    let language = liquid_std::language(alloc, filters(alloc, None)?)?;
+    let language = liquid_std::language(alloc, filters(alloc, now)?)?;
     Ok(Rc::new(alloc, language)?)
 }
 
-/// Returns the language that these options choose, if there are such options.
-pub(crate) fn choose_language(alloc: Global, options: u32) -> Chosen
-    ensures { IsChosen options result }
+/// Returns the language that the options of a page choose, if there are such options and its moment is one.
+pub(crate) fn choose_language(alloc: Global, page: &Page<'_>) -> Chosen
+    ensures { IsChosen page.now result }
 {
-    if DECIMALS * 2 <= options {
+    if NOW * 2 <= page.options {
         return Chosen::NoOptions;
     }
-    if has_bit(options, STANDARD) {
-        match standard_language(alloc) {
+    match given_moment(alloc, page) {
+        Ok(now) => language_at(alloc, has_bit(page.options, STANDARD), now),
+        Err(MomentFault::NoMoment) => Chosen::NoMoment,
+        Err(MomentFault::NoMemory) => Chosen::NoMemory,
+    }
+}
+
+/// Returns the standard language with this moment, or the one without filters, if there is memory for it.
+fn language_at(alloc: Global, is_standard: bool, now: Option<DateTime>) -> Chosen
+    ensures { IsChosenAt now is_standard result }
+{
+    if is_standard {
+        match standard_language(alloc, now) {
             Ok(language) => Chosen::Standard(language),
             Err(_) => Chosen::NoMemory,
         }

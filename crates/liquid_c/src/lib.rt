@@ -3,6 +3,7 @@
 
 pub mod each;
 pub mod languages;
+mod moments;
 pub mod page;
 mod places;
 pub mod rendering;

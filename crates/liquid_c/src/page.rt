@@ -3,7 +3,7 @@
 use liquid_pages::PartialBytes;
 
 // c/test.c has the same sizes of the header's structs.
-const _: () = prove!(size_of::<Page<'static>>() == 72);
+const _: () = prove!(size_of::<Page<'static>>() == 88);
 
 const _: () = prove!(size_of::<PartialBytes<'static>>() == 32);
 
@@ -18,11 +18,13 @@ pub struct Page<'a> {
     /// A text of JSON, which is an object.
     pub globals: &'a [u8],
     pub partials: &'a [PartialBytes<'a>],
-    /// The sum of `SANDBOXED`, `LENIENT`, `STANDARD` and `DECIMALS`, each at most once.
+    /// The sum of `SANDBOXED`, `LENIENT`, `STANDARD`, `DECIMALS` and `NOW`, each at most once.
     pub options: u32,
     /// How many turns of tags and blocks the page may take, and how many bytes it may write; 0 if that is not limited.
     pub max_turns: u64,
     pub max_bytes: u64,
+    /// With `NOW`, a text that writes the moment for `now` and `today`. Without it, the bytes are not read.
+    pub moment: &'a [u8],
 }
 
 /// The globals are the data of a sandbox, over a runtime without names.
@@ -33,6 +35,8 @@ pub const LENIENT: u32 = 2;
 pub const STANDARD: u32 = 4;
 /// A number of the globals with a fraction is a decimal instead of an error.
 pub const DECIMALS: u32 = 8;
+/// The page has a moment, which the texts `now` and `today` are for the filter `date`.
+pub const NOW: u32 = 16;
 
 /// The number of the template in `Outcome::which`.
 pub const TEMPLATE: u32 = 0;

@@ -18,6 +18,7 @@ ghost use Rattle.liquid_c.specs.meaning.Outcomes.{
   OutOfMemory,
   kind_of,
   outcome_alone,
+  without_moment,
 };
 ghost use Rattle.liquid_c.specs.steps.Prepared.{AskedComesTo};
 
@@ -40,12 +41,17 @@ const SHORT: u32 = 7;
 
 pub(crate) const NO_OPTIONS: u32 = 8;
 
+const NO_MOMENT: u32 = 9;
+
+const NO_MOMENT_TEXT: &str = "liquid: now is not a date or a date time\n";
+
 /// Renders a page into `out`, in the language that its options choose, and writes the text of its error to `message`.
 pub fn render(alloc: Global, page: &Page<'_>, out: &mut [u8], message: &mut [u8]) -> Outcome
     ensures { LeavesAsked page.now out.old out.new result }
 {
-    match choose_language(alloc, page.options) {
+    match choose_language(alloc, page) {
         Chosen::NoOptions => refused(NO_OPTIONS),
+        Chosen::NoMoment => refuse_moment(message),
         Chosen::NoMemory => refused(NO_MEMORY),
         Chosen::Plain(language) => render_in::<(), _, _, _>(alloc, &language, page, out, message),
         Chosen::Standard(language) => {
@@ -59,6 +65,18 @@ pub(crate) fn refused(kind: u32) -> Outcome
     ensures { result ≡ outcome_alone kind }
 {
     Outcome { kind, ..EMPTY }
+}
+
+/// Returns the outcome of a page whose moment is none, of which nothing was rendered, and writes the text of the error.
+pub(crate) fn refuse_moment(message: &mut [u8]) -> Outcome
+    ensures { result ≡ without_moment }
+{
+    copy_front(NO_MOMENT_TEXT.as_bytes(), message);
+    Outcome {
+        kind: NO_MOMENT,
+        message_len: NO_MOMENT_TEXT.len(),
+        ..EMPTY
+    }
 }
 
 /// Renders a page in this language, over a runtime with a register of type `V`.

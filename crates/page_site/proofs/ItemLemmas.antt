@@ -68,29 +68,36 @@ all_before before after partials names (item ∷ items) known left status result
   all_before before after partials names items between left (if status == 0 then one else status) result same rest,
 )
 
--- one file, by what was returned for it
-item_written : (answers : Answers) (partials : List ℕ → Option (List ℕ)) (names : Members) (item : ItemShape) (known left : Files)
+-- one file, by what was returned for it, before its fault is reported
+pub item_written : (answers : Answers) (partials : List ℕ → Option (List ℕ)) (names : Members) (item : ItemShape) (known between left : Files)
     (one : ℕ) (r : Result (Unit {0}) SiteFault)
-    → OnOk r ((made : List ℕ) × IsMade answers partials names known item made × Replaces known left item.target made)
-    → OnErr r (Same known left) → OnOk r (one ≡ 0) → OnErr r (one ≢ 0)
+    → OnOk r ((made : List ℕ) × IsMade answers partials names known item made × Replaces known between item.target made)
+    → OnErr r (Same known between) → left ≡ between → OnOk r (one ≡ 0) → OnErr r (one ≢ 0)
     → WritesItem answers partials names item known left one
-item_written answers partials names item known left one (Ok _) written kept zero more = inl (zero, written)
-item_written answers partials names item known left one (Err fault) written kept zero more = inr (more, kept)
+item_written answers partials names item known between left one r written kept is zero more =
+    subst (λ (files : Files). WritesItem answers partials names item known files one) (sym is)
+    (by_result r written kept zero more)
+  where
+    by_result : (r : Result (Unit {0}) SiteFault)
+        → OnOk r ((made : List ℕ) × IsMade answers partials names known item made × Replaces known between item.target made)
+        → OnErr r (Same known between) → OnOk r (one ≡ 0) → OnErr r (one ≢ 0)
+        → WritesItem answers partials names item known between one
+    by_result (Ok _) written kept zero more = inl (zero, written)
+    by_result (Err fault) written kept zero more = inr (more, kept)
 
 -- one file, and those after it
 pub items_written : (before after : Answers) (partials : List ℕ → Option (List ℕ)) (names : Members) (all : List ItemShape)
-    (item : ItemShape) (items : List ItemShape) (known between left : Files) (status one following result : ℕ) (r : Result (Unit {0}) SiteFault)
+    (item : ItemShape) (items : List ItemShape) (known between left : Files) (status one following result : ℕ)
     → all ≡ item ∷ items → StaysWithin before after
-    → OnOk r ((made : List ℕ) × IsMade before partials names known item made × Replaces known between item.target made)
-    → OnErr r (Same known between) → OnOk r (one ≡ 0) → OnErr r (one ≢ 0)
+    → WritesItem before partials names item known between one
     → following ≡ (if status == 0 then one else status)
     → WritesItems after partials names items between left following result
     → WritesItems before partials names all known left status result
-items_written before after partials names all item items known between left status one following result r is same written kept zero more step rest =
+items_written before after partials names all item items known between left status one following result is same written step rest =
     subst (λ is. WritesItems before partials names is known left status result) (sym is) (
       between,
       one,
-      item_written before partials names item known between one r written kept zero more,
+      written,
       all_before before after partials names items between left (if status == 0 then one else status) result same
           (subst (λ s. WritesItems after partials names items between left s result) step rest),
     )

@@ -3,4 +3,5 @@ pub mod ItemLemmas
 pub mod Names
 pub mod PageNames
 pub mod PartialLemmas
+pub mod RequestLemmas
 pub mod WrapLemmas

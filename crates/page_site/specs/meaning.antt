@@ -4,3 +4,4 @@ pub mod Front
 pub mod Items
 pub mod Layouts
 pub mod Partials
+pub mod Requested

@@ -1,10 +1,11 @@
 //! The partials in a folder.
-ghost use Rattle.std.specs.Prelude.{◌≡◌, ◌∷◌, ◌++◌, ℕ, Bool, List, [], Option, Some, codes, map, true, IfOk, IfErr, string_bytes, if◌then◌else◌};
+ghost use Rattle.std.specs.Prelude.{◌≡◌, ◌∷◌, ◌++◌, ℕ, Bool, List, [], Option, Some, codes, map, true, IfOk, IfErr, is_ok, string_bytes, if◌then◌else◌};
 ghost use Rattle.std.specs.Str.{bytes_eq};
 ghost use Rattle.liquid_files.specs.meaning.Files.{also, known_in, listed_in, listing, reading};
 ghost use Rattle.page_site.specs.meaning.Faults.{partial_text};
 ghost use Rattle.page_site.specs.meaning.Items.{IsBlank, MayBe, file_in, page_name};
 ghost use Rattle.page_site.specs.meaning.Partials.{partial_in};
+ghost use Rattle.page_site.specs.meaning.Requested.{Follows, partial_requests};
 
 use crate::fault::{PageFault, SiteFault};
 use crate::items::page_name;
@@ -27,6 +28,8 @@ pub fn read_partials<F: Folder>(
         × ((name : List ℕ) → partial_text partials name ≡ partial_in all folder.now names name)) }
     ensures same { F.known files.new ≡ F.known files.old }
     ensures listed { F.listed files.new ≡ F.listed files.old }
+    ensures requests { (folders : Bool → List ℕ → Option (List (List ℕ))) → F.listed files.old ≡ listed_in folders
+        → Follows (partial_requests folders folder.now) (F.requests files.old) (F.requests files.new) (is_ok result) }
 {
     match files.list_tree(alloc, folder) {
         Ok(names) => read_each(alloc, files, folder, names),
@@ -46,6 +49,8 @@ fn read_each<F: Folder>(
         (name : List ℕ) → partial_text partials name ≡ partial_in all folder.now (map string_bytes names.items) name) }
     ensures same { F.known files.new ≡ F.known files.old }
     ensures listed { F.listed files.new ≡ F.listed files.old }
+    ensures requests { Follows (map (λ name. reading (file_in folder.now name)) (map string_bytes names.items))
+        (F.requests files.old) (F.requests files.new) (is_ok result) }
 {
     let mut partials = BTreeMap::new(alloc);
     for name in names {

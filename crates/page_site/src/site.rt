@@ -6,22 +6,55 @@ ghost use Rattle.page_site.specs.meaning.Answers.{StaysWithin};
 ghost use Rattle.page_site.specs.meaning.Faults.{partial_text};
 ghost use Rattle.page_site.specs.meaning.Layouts.{IsPage};
 ghost use Rattle.page_site.specs.steps.Making.{IsTroubled, IsUnread};
-ghost use Rattle.page_site.specs.meaning.Items.{IsMade, IsUnmade, MayBe, WritesItems, item_of};
+ghost use Rattle.page_site.specs.meaning.Items.{IsMade, IsUnmade, MayBe, WritesItem, WritesItems, item_of};
 
 use crate::engine::Engine;
 use crate::fault::{PageFault, SiteFault};
 use crate::items::{Item, is_page};
 use crate::layouts::{Partials, render_page};
+use crate::messages::report;
 use liquid_files::{Folder, Unread};
 use liquid_value::SharedObject;
 use std::alloc::Global;
 use std::io::Write;
+use std::rc::Rc;
 
 /// What the pages of a site are rendered over.
 #[derive(Drop)]
 pub struct Site {
     pub names: SharedObject,
-    pub partials: Partials,
+    pub partials: Rc<Partials>,
+}
+
+/// How many of the files of a site were made so far, and what was written.
+#[derive(Clone, Copy, Debug, PartialEq, Eq)]
+pub struct Tally {
+    /// How many files there are.
+    pub count: usize,
+    /// How many were made.
+    pub made: usize,
+    /// How many were written.
+    pub written: usize,
+    /// How many bytes were written.
+    pub bytes: usize,
+}
+
+impl Tally {
+    /// Returns the tally of so many files before any was made.
+    pub fn new(count: usize) -> Tally {
+        Tally {
+            count,
+            made: 0,
+            written: 0,
+            bytes: 0,
+        }
+    }
+
+    /// Counts a file that was written.
+    fn add(&mut self, bytes: usize) {
+        self.written = self.written.saturating_add(1);
+        self.bytes = self.bytes.saturating_add(bytes);
+    }
 }
 
 /// Returns what a file becomes: its page if it is one, and otherwise its bytes.
@@ -32,9 +65,9 @@ pub fn make<F: Folder, E: Engine>(
     files: &mut F,
     item: &Item,
 ) -> Result<Vec<u8>, SiteFault>
-    ensures made { IfOk result (λ made. IsMade (E.answers engine.old) (partial_text site.now.partials) (object_view site.now.names)
+    ensures made { IfOk result (λ made. IsMade (E.answers engine.old) (partial_text site.now.partials.value) (object_view site.now.names)
         (F.known files.old) (item_of item.now) made.items) }
-    ensures unmade { IfErr result (IsUnmade (E.answers engine.old) (partial_text site.now.partials) (object_view site.now.names)
+    ensures unmade { IfErr result (IsUnmade (E.answers engine.old) (partial_text site.now.partials.value) (object_view site.now.names)
         (F.known files.old) (item_of item.now)) }
     ensures answers { StaysWithin (E.answers engine.old) (E.answers engine.new) }
     ensures same { F.known files.new ≡ F.known files.old }
@@ -80,8 +113,8 @@ fn make_page<E: Engine>(
     path: &str,
     text: &str,
 ) -> Result<Vec<u8>, SiteFault>
-    ensures page { IfOk result (λ made. IsPage (E.answers engine.old) (partial_text site.now.partials) (object_view site.now.names) text.now made.items) }
-    ensures trouble { IfErr result (λ fault. IsTroubled (E.answers engine.old) (partial_text site.now.partials) (object_view site.now.names) text.now fault) }
+    ensures page { IfOk result (λ made. IsPage (E.answers engine.old) (partial_text site.now.partials.value) (object_view site.now.names) text.now made.items) }
+    ensures trouble { IfErr result (λ fault. IsTroubled (E.answers engine.old) (partial_text site.now.partials.value) (object_view site.now.names) text.now fault) }
     ensures answers { StaysWithin (E.answers engine.old) (E.answers engine.new) }
 {
     match render_page(alloc, engine, &site.partials, &site.names, path, text) {
@@ -90,15 +123,17 @@ fn make_page<E: Engine>(
     }
 }
 
-/// Writes what a file becomes to its target. If that can't be done, all files stay as they are.
+/// Writes what a file becomes to its target, and says so where someone may watch. If that can't be done, all files stay as
+/// they are.
 pub fn write_item<F: Folder, E: Engine>(
     alloc: Global,
     site: &Site,
     engine: &mut E,
     files: &mut F,
     item: &Item,
+    tally: &mut Tally,
 ) -> Result<(), SiteFault>
-    ensures written { OnOk result ((made : List ℕ) × IsMade (E.answers engine.old) (partial_text site.now.partials)
+    ensures written { OnOk result ((made : List ℕ) × IsMade (E.answers engine.old) (partial_text site.now.partials.value)
         (object_view site.now.names) (F.known files.old) (item_of item.now) made
         × Replaces (F.known files.old) (F.known files.new) (item_of item.now).target made) }
     ensures kept { OnErr result (Same (F.known files.old) (F.known files.new)) }
@@ -107,12 +142,17 @@ pub fn write_item<F: Folder, E: Engine>(
 {
     let made = make(alloc, site, engine, files, item)?;
     let (source, target) = (item.source.as_str(), item.target.as_str());
+    tally.made = tally.made.saturating_add(1);
+    files.announce(tally.made, tally.count, source);
     if files.is_same_file(source, target) {
         return Err(SiteFault::OwnFile(item.target.clone()?));
     }
     files.make_folders(alloc, target);
     match files.replace(alloc, target, made.as_slice()) {
-        Ok(()) => Ok(()),
+        Ok(()) => {
+            tally.add(made.len());
+            Ok(())
+        }
         Err(Unread::Memory) => Err(SiteFault::Page(PageFault::Memory)),
         Err(Unread::Fault) => Err(SiteFault::Unwritable(item.target.clone()?)),
     }
@@ -125,14 +165,15 @@ pub fn write_items<F: Folder, E: Engine, W: Write>(
     engine: &mut E,
     files: &mut F,
     items: &[Item],
+    tally: &mut Tally,
     err: &mut W,
 ) -> u8
-    ensures written { WritesItems (E.answers engine.old) (partial_text site.now.partials) (object_view site.now.names)
+    ensures written { WritesItems (E.answers engine.old) (partial_text site.now.partials.value) (object_view site.now.names)
         (map item_of items.now) (F.known files.old) (F.known files.new) 0 result }
     ensures requests { F.requests files.new ≡ also (F.requests files.old) (map (λ item. reading item.source) (map item_of items.now)) }
     ensures quiet { result ≡ 0 → err.new ≡ err.old }
 {
-    write_each(alloc, site, engine, files, items, 0, err)
+    write_each(alloc, site, engine, files, items, 0, tally, err)
 }
 
 /// Writes these files, after earlier ones that had this status.
@@ -143,9 +184,10 @@ fn write_each<F: Folder, E: Engine, W: Write>(
     files: &mut F,
     items: &[Item],
     status: u8,
+    tally: &mut Tally,
     err: &mut W,
 ) -> u8
-    ensures written { WritesItems (E.answers engine.old) (partial_text site.now.partials) (object_view site.now.names)
+    ensures written { WritesItems (E.answers engine.old) (partial_text site.now.partials.value) (object_view site.now.names)
         (map item_of items.now) (F.known files.old) (F.known files.new) status result }
     ensures requests { F.requests files.new ≡ also (F.requests files.old) (map (λ item. reading item.source) (map item_of items.now)) }
     ensures first { status ≢ 0 → result ≡ status }
@@ -154,36 +196,29 @@ fn write_each<F: Folder, E: Engine, W: Write>(
     match items.split_first() {
         None => status,
         Some((item, rest)) => {
-            let answer = write_item(alloc, site, engine, files, item);
-            let one = report(item.source.as_str(), answer, err);
+            let one = write_one(alloc, site, engine, files, item, tally, err);
             let status = if status == 0 { one } else { status };
-            write_each(alloc, site, engine, files, rest, status, err)
+            write_each(alloc, site, engine, files, rest, status, tally, err)
         }
     }
 }
 
-/// Returns the status of the file at this path, and writes its fault to `err`, if it has one.
-pub fn report<W: Write>(source: &str, answer: Result<(), SiteFault>, err: &mut W) -> u8
-    ensures ok { OnOk answer (result ≡ 0) }
-    ensures fault { OnErr answer (result ≢ 0) }
+/// Writes a file, or its fault to `err`. Returns its status.
+fn write_one<F: Folder, E: Engine, W: Write>(
+    alloc: Global,
+    site: &Site,
+    engine: &mut E,
+    files: &mut F,
+    item: &Item,
+    tally: &mut Tally,
+    err: &mut W,
+) -> u8
+    ensures written { WritesItem (E.answers engine.old) (partial_text site.now.partials.value) (object_view site.now.names)
+        (item_of item.now) (F.known files.old) (F.known files.new) result }
+    ensures answers { StaysWithin (E.answers engine.old) (E.answers engine.new) }
+    ensures requests { F.requests files.new ≡ also (F.requests files.old) (reading (item_of item.now).source ∷ []) }
     ensures quiet { result ≡ 0 → err.new ≡ err.old }
 {
-    match answer {
-        Ok(()) => 0,
-        Err(fault) => {
-            write_fault(source, &fault, err);
-            fault.status()
-        }
-    }
-}
-
-/// Writes the fault of the file at this path.
-fn write_fault<W: Write>(source: &str, fault: &SiteFault, err: &mut W) {
-    let _ = match fault {
-        SiteFault::Page(PageFault::Unrendered(message)) => write!(err, "{message}"),
-        SiteFault::Page(PageFault::NoLayout(_) | PageFault::LayoutAgain(_)) => {
-            writeln!(err, "liquid: {source}: {fault}")
-        }
-        _ => writeln!(err, "liquid: {fault}"),
-    };
+    let answer = write_item(alloc, site, engine, files, item, tally);
+    report(files, item.source.as_str(), answer, err)
 }

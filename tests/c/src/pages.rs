@@ -1,6 +1,8 @@
 //! Pages in the caller's memory, and how they end.
 use liquid_c::each::render_each;
-use liquid_c::page::{BYTES, DECIMALS, EMPTY, LENIENT, Outcome, Page, SANDBOXED, STANDARD, TURNS};
+use liquid_c::page::{
+    BYTES, DECIMALS, EMPTY, LENIENT, NOW, Outcome, Page, SANDBOXED, STANDARD, TURNS,
+};
 use liquid_c::rendering::render;
 use liquid_pages::PartialBytes;
 use rows::holds;
@@ -141,7 +143,7 @@ static ROWS: [Row<'static>; 17] = [
         4,
         b"1.50",
     ),
-    (b"a", b"{}", 0, 16, 9, 8, 0, 0, b""),
+    (b"a", b"{}", 0, 32, 9, 8, 0, 0, b""),
 ];
 
 /// Returns `true` if a row's page ends as the row says, with the output of the row and no other byte.
@@ -154,6 +156,7 @@ fn is_rendered(alloc: Global, row: &Row<'_>) -> bool {
         options,
         max_turns: 0,
         max_bytes: 0,
+        moment: b"",
     };
     let mut out = [35u8; 9];
     let mut message = [0u8; 128];
@@ -186,6 +189,7 @@ fn the_partial_that_is_no_text_is_named(rt: HostRuntime) -> Result<(), Fail> {
         options: 0,
         max_turns: 0,
         max_bytes: 0,
+        moment: b"",
     };
     let outcome = render(rt.alloc(), &page, &mut [], &mut []);
     holds(
@@ -214,6 +218,7 @@ fn an_error_of_rendering_has_a_place(rt: HostRuntime) -> Result<(), Fail> {
             options: 0,
             max_turns: 0,
             max_bytes: 0,
+            moment: b"",
         };
         let outcome = render(rt.alloc(), &page, &mut [], &mut []);
         let found = (outcome.which, outcome.partial, outcome.line, outcome.column);
@@ -235,6 +240,7 @@ fn pages_are_rendered_in_turn(rt: HostRuntime) -> Result<(), Fail> {
         options: 0,
         max_turns: 0,
         max_bytes: 0,
+        moment: b"",
     };
     let globals: [&[u8]; 4] = [b"{\"x\": 1}", b"{}", b"{\"x\": \"seven\"}", b"{\"x\": 2}"];
     let mut out = [35u8; 9];
@@ -275,6 +281,7 @@ fn outcome_within(alloc: Global, max_turns: u64, max_bytes: u64, out: &mut [u8])
         options: 0,
         max_turns,
         max_bytes,
+        moment: b"",
     };
     render(alloc, &page, out, &mut [])
 }
@@ -288,6 +295,58 @@ fn a_page_past_its_limits_is_stopped(rt: HostRuntime) -> Result<(), Fail> {
             && outcome.limit == *limit
             && front(&out, outcome.written) == *written;
         if !is_stopped {
+            return Err(Fail::new(format_args!("{outcome:?} is another than {kind}")));
+        }
+    }
+    Ok(())
+}
+
+/// The options, the moment, the kind, and what is written.
+static MOMENTS: [(u32, &[u8], u32, &[u8]); 8] = [
+    (
+        STANDARD | NOW,
+        b"2024-02-29 04:05:06 +0100",
+        0,
+        b"29.2.2024",
+    ),
+    (
+        STANDARD | NOW,
+        b"Thu, 29 Feb 2024 04:05 GMT",
+        0,
+        b"29.2.2024",
+    ),
+    (STANDARD | NOW, b"2024-02-29", 0, b"29.2.2024"),
+    (STANDARD, b"2024-02-29", 0, b"now"),
+    (STANDARD | NOW, b"now", 9, b""),
+    (STANDARD | NOW, b"2023-02-29", 9, b""),
+    (STANDARD | NOW, b"\xff", 9, b""),
+    (NOW, b"", 9, b""),
+];
+
+#[test]
+fn now_is_the_moment_of_the_page(rt: HostRuntime) -> Result<(), Fail> {
+    for (options, moment, kind, written) in &MOMENTS {
+        let page = Page {
+            text: b"{{ 'now' | date: '%e.%-m.%Y' }}",
+            globals: b"{}",
+            partials: &[],
+            options: *options,
+            max_turns: 0,
+            max_bytes: 0,
+            moment: *moment,
+        };
+        let mut out = [35u8; 9];
+        let mut message = [0u8; 128];
+        let outcome = render(rt.alloc(), &page, &mut out, &mut message);
+        let text: &[u8] = if *kind == 9 {
+            b"liquid: now is not a date or a date time\n"
+        } else {
+            b""
+        };
+        let is_right = outcome.kind == *kind
+            && front(&out, outcome.written) == *written
+            && front(&message, outcome.message_len) == text;
+        if !is_right {
             return Err(Fail::new(format_args!("{outcome:?} is another than {kind}")));
         }
     }

@@ -2,11 +2,12 @@
 use liquid_error::Error;
 use liquid_jekyll::filters;
 use liquid_json::to_value;
-use liquid_value::render::ValueSource;
+use liquid_value::render::{ValueRender, ValueSource};
 use liquid_value::{Value, ValueCow};
 use rows::{Line, is_text};
 use serde_json::Value as Json;
 use std::alloc::Global;
+use std_filters::json_text::json;
 use std_filters::{CallArguments, FilterKind};
 
 /// Returns `true` if the filter of a row returns what the row says: the filter's name, its input, its arguments, and the
@@ -21,6 +22,25 @@ pub(crate) fn is_answered(alloc: Global, row: &Line) -> bool {
         }
         _ => false,
     }
+}
+
+/// Returns `true` if the filter of a row returns what the row says, as JSON.
+pub(crate) fn is_written(alloc: Global, row: &Line) -> bool {
+    match (row.text(0), row.member(1), row.list(2), row.text(3)) {
+        (Some(name), Some(input), Some(arguments), Some(wanted)) => {
+            match written(alloc, name, input, arguments.as_slice()) {
+                Ok(value) => is_text(ValueRender::new(&value).to_string(alloc), wanted),
+                Err(_) => false,
+            }
+        }
+        _ => false,
+    }
+}
+
+/// Returns what the filter of this name returns, as JSON.
+fn written(alloc: Global, name: &str, input: &Json, arguments: &[Json]) -> Result<Value, Error> {
+    let answer = answered(alloc, name, input, arguments)?;
+    json(alloc, &answer)
 }
 
 /// Returns what the filter of this name returns.

@@ -6,13 +6,14 @@ use liquid_files::InMemoryFolder;
 use liquid_scalar::Scalar;
 use liquid_value::{Object, SharedObject, Value};
 use page_site::{
-    Engine, Failure, Item, Partials, Site, Source, add_items, find_clash, read_partials,
+    Engine, Failure, Item, Partials, Site, Source, Tally, add_items, find_clash, read_partials,
     write_items,
 };
 use rows::{Line, rows_hold};
 use serde_json::Value as Json;
 use std::alloc::{AllocError, Global};
 use std::collections::BTreeMap;
+use std::rc::Rc;
 use std::test::Fail;
 
 /// Gives texts back.
@@ -58,7 +59,7 @@ impl Engine for Echo {
     }
 }
 
-fn add_files(alloc: Global, files: &mut InMemoryFolder, list: &Vec<Json>) -> bool {
+pub fn add_files(alloc: Global, files: &mut InMemoryFolder, list: &Vec<Json>) -> bool {
     for file in list {
         let (path, text) = (
             file.get(0).and_then(Json::as_str),
@@ -85,7 +86,7 @@ fn names_in(alloc: Global, list: Option<&Vec<Json>>) -> Option<Vec<String>> {
     Some(names)
 }
 
-fn add_trees(alloc: Global, files: &mut InMemoryFolder, list: &Vec<Json>) -> bool {
+pub fn add_trees(alloc: Global, files: &mut InMemoryFolder, list: &Vec<Json>) -> bool {
     for tree in list {
         let path = tree.get(0).and_then(Json::as_str);
         let names = names_in(alloc, tree.get(1).and_then(Json::as_array));
@@ -100,7 +101,7 @@ fn add_trees(alloc: Global, files: &mut InMemoryFolder, list: &Vec<Json>) -> boo
     true
 }
 
-fn has_files(files: &InMemoryFolder, list: &Vec<Json>) -> bool {
+pub fn has_files(files: &InMemoryFolder, list: &Vec<Json>) -> bool {
     for file in list {
         let path = file.get(0).and_then(Json::as_str).unwrap_or("");
         let wanted = file.get(1).and_then(Json::as_str);
@@ -133,9 +134,19 @@ fn written(alloc: Global, row: &Line, files: &mut InMemoryFolder) -> Option<Stri
     }
     let partials = partials_of(alloc, files, row.text(3)?)?;
     let names = SharedObject::shared(alloc, Object::new(alloc)).ok()?;
+    let partials = Rc::new(alloc, partials).ok()?;
     let site = Site { names, partials };
+    let mut tally = Tally::new(items.len());
     let mut err = Vec::new(alloc);
-    let status = write_items(alloc, &site, &mut Echo, files, items.as_slice(), &mut err);
+    let status = write_items(
+        alloc,
+        &site,
+        &mut Echo,
+        files,
+        items.as_slice(),
+        &mut tally,
+        &mut err,
+    );
     let err = String::from_utf8(err).ok()?;
     format!(in alloc; "{status} {err}").ok()
 }
@@ -166,7 +177,7 @@ const SITES: &str = r#"[[["t", "x"]], [], ["t"], "", "0 ", [["o/t", "x<>"]]]
 [[["t", "---\na: 1\n---\nfails"], ["u", "x"]], [], ["t", "u"], "", "1 line 4\n", [["o/t"], ["o/u", "x<>"]]]
 [[["t", "---\n---\n"], ["u", "+++\ntitle = \"T\"\n+++\nx"]], [], ["t", "u"], "", "0 ", [["o/t", "<>"], ["o/u", "xT<>"]]]
 [[["t", "\ufeff---\ntitle: T\n---\nx"], ["u", "\ufeffx"]], [], ["t", "u"], "", "0 ", [["o/t", "xT<>"], ["o/u", "x<>"]]]
-[[], [], ["gone"], "", "3 liquid: cannot read gone\n", [["o/gone"]]]"#;
+[[], [], ["gone"], "", "3 liquid: cannot read gone: there is no such file or folder\n", [["o/gone"]]]"#;
 
 #[test]
 fn files_of_a_site_are_written(rt: HostRuntime) -> Result<(), Fail> {

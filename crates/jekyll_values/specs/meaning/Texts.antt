@@ -16,6 +16,8 @@ use Rattle.jekyll_texts.specs.meaning.Escape as escape
 use Rattle.jekyll_texts.specs.meaning.Index as index
 use Rattle.jekyll_texts.specs.meaning.Slugs.{slug}
 use Rattle.jekyll_texts.specs.meaning.Words as words
+use Rattle.jekyll_urls.specs.declared.parts.UrlPart.TheVariants.{Whole}
+use Rattle.jekyll_urls.specs.meaning.Parts.{cleaned}
 
 -- the text with one space for each run of white space, and none at the ends
 abbrev pub normalized : Tree → Tree
@@ -24,6 +26,11 @@ normalized input = written (words.normalized (render input))
 -- the text with entities of XML
 abbrev pub xml_escaped : Tree → Tree
 xml_escaped input = written (escape.xml_escaped (render input))
+
+-- the text as a URL, in one spelling; nil stays nil
+abbrev pub uri_escaped : Tree → Tree
+uri_escaped nil = nil
+uri_escaped input = written (cleaned Whole (render input))
 
 -- a text, or nil in place of the empty one
 abbrev pub written_or_nil : List ℕ → Tree

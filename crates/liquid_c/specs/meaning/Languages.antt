@@ -1,6 +1,7 @@
 -- The languages that the options of a page choose from.
-use Rattle.std.specs.Prelude.{ℕ, Bool, true, false, List, None, Result}
+use Rattle.std.specs.Prelude.{ℕ, Bool, true, false, List, Option, Result}
 use Rattle.std.specs.FinMap.{empty}
+use Rattle.liquid_dates.specs.declared.date_time.DateTime.{DateTime}
 use Rattle.liquid_error.specs.meaning.Refusal.{Refusal}
 use Rattle.liquid_plugins.specs.meaning.ArgumentsOf.{Arguments}
 use Rattle.liquid_plugins.specs.meaning.Chain.{FilterMeaning}
@@ -38,11 +39,12 @@ filter_calls = calls std_sense
 abbrev pub plain_language : Lang (CallShape StdKind) (TagShape (CallShape StdKind)) PlanShape BlockShape
 plain_language = tags_and_blocks (registry_of filter_made empty)
 
--- the standard tags, blocks and filters
-abbrev pub standard_language : Lang (CallShape StdKind) (StdTagShape (CallShape StdKind)) StdPlanShape StdBlockShape
-standard_language = standard_tags_and_blocks (registry_of filter_made (standard_filters None))
+-- the standard tags, blocks and filters, for which `now` and `today` are this moment, if there is one
+abbrev pub standard_language : Option DateTime → Lang (CallShape StdKind) (StdTagShape (CallShape StdKind)) StdPlanShape StdBlockShape
+standard_language now = standard_tags_and_blocks (registry_of filter_made (standard_filters now))
 
--- the page of these bytes in one of the two languages; the standard one keeps marks, of which there are none at first
-abbrev pub ComesToIn : Bool → PageOptions → List ℕ → List ℕ → List NameAndText → Page → Type 0
-ComesToIn false = ComesTo (library (tt {0}) filter_calls) plain_language
-ComesToIn true = ComesTo (standard marks_alone no_marks filter_calls) standard_language
+-- the page of these bytes in one of the two languages. The standard one has this moment, and keeps marks, of which there
+-- are none at first
+abbrev pub ComesToIn : Option DateTime → Bool → PageOptions → List ℕ → List ℕ → List NameAndText → Page → Type 0
+ComesToIn now false = ComesTo (library (tt {0}) filter_calls) plain_language
+ComesToIn now true = ComesTo (standard marks_alone no_marks filter_calls) (standard_language now)

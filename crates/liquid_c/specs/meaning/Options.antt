@@ -1,4 +1,4 @@
--- The options of a page as C gives them: a number of four bits, and two limits.
+-- The options of a page as C gives them: a number of five bits, and two limits.
 use Rattle.std.specs.Prelude.{ℕ, Bool, true, false, Option, None, Some, not, nat_eq, bit_and, if◌then◌else◌}
 use Rattle.liquid_pages.specs.declared.options.PageFrame.{PageFrame}
 use Rattle.liquid_pages.specs.declared.options.PageFrame.TheVariants.{Open, Sandboxed, Isolated}

@@ -7,6 +7,7 @@ use Rattle.std.specs.Prelude.{
   min,
   ◌⊎◌,
   List,
+  codes,
   ◌++◌,
   length,
   take,
@@ -19,6 +20,7 @@ use Rattle.std.specs.Prelude.{
   map,
   if◌then◌else◌,
 }
+use Rattle.liquid_dates.specs.declared.date_time.DateTime.{DateTime}
 use Rattle.liquid_error.specs.declared.place.Place.{Place}
 use Rattle.liquid_error.specs.meaning.ErrorText.{error_text}
 use Rattle.liquid_pages.specs.declared.fault.PageText.{PageText}
@@ -29,6 +31,7 @@ use Rattle.liquid_pages.specs.meaning.Shown.{Page, Begins, bytes_of_partial}
 use Rattle.liquid_c.specs.declared.page.Outcome.{Outcome}
 use Rattle.liquid_c.specs.declared.page.Page.{Page as Asked}
 use Rattle.liquid_c.specs.meaning.Languages.{ComesToIn}
+use Rattle.liquid_c.specs.meaning.Moments.{HasMoment, LacksMoment}
 use Rattle.liquid_c.specs.meaning.Options.{has_standard, page_options}
 
 -- the kinds, by their numbers in the header
@@ -110,13 +113,22 @@ pub record Leaves (page : Page) (old new : List ℕ) (o : Outcome) : Type 0 wher
 abbrev pub Unasked : List ℕ → List ℕ → Outcome → Type 0
 Unasked old new o = (o ≡ outcome_alone 8) × (new ≡ old)
 
+-- the outcome of a page whose moment is none (9): nothing else is in it, but the length of its message
+abbrev pub without_moment : Outcome
+without_moment = record (outcome_alone 9) { message_len = length (codes "liquid: now is not a date or a date time\n") }
+
+-- such a page is refused, or memory ran out (6) before that was known, and nothing is written
+abbrev pub Momentless : List ℕ → List ℕ → Outcome → Type 0
+Momentless old new o = ((o ≡ without_moment) ⊎ (o ≡ outcome_alone 6)) × (new ≡ old)
+
 -- what a call leaves of the page that it was asked for, over these globals
 abbrev pub LeavesOver : Asked → List ℕ → List ℕ → List ℕ → Outcome → Type 0
 LeavesOver asked globals old new o =
-    (asked.options < 16 → (page : Page)
-    → ComesToIn (has_standard asked.options) (page_options asked) asked.text.now globals (map bytes_of_partial asked.partials.now) page
+    (asked.options < 32 → (now : Option DateTime) → HasMoment asked now → (page : Page)
+    → ComesToIn now (has_standard asked.options) (page_options asked) asked.text.now globals (map bytes_of_partial asked.partials.now) page
     → Leaves page old new o)
-    × (16 ≤ asked.options → Unasked old new o)
+    × (asked.options < 32 → LacksMoment asked → Momentless old new o)
+    × (32 ≤ asked.options → Unasked old new o)
 
 -- the same over the page's own globals
 abbrev pub LeavesAsked : Asked → List ℕ → List ℕ → Outcome → Type 0

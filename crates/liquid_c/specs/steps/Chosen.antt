@@ -1,7 +1,8 @@
 -- The language that is chosen before a page is rendered, for proofs alone.
-use Rattle.std.specs.Prelude.{◌≡◌, ◌<◌, ◌≤◌, ℕ, List, true, false}
+use Rattle.std.specs.Prelude.{◌≡◌, ◌<◌, ◌≤◌, ℕ, List, Bool, true, false, Option, Result, Ok, Err}
 use Rattle.std.specs.declared.alloc.Global.{Global}
 use Rattle.std.specs.declared.rc.Rc.{Rc}
+use Rattle.liquid_dates.specs.declared.date_time.DateTime.{DateTime}
 use Rattle.liquid_parser.specs.declared.plugin.language.Language.{Language}
 use Rattle.liquid_tags.specs.declared.block_plugins.Blocks.{Blocks}
 use Rattle.liquid_tags.specs.declared.tag_plugins.Tags.{Tags}
@@ -11,12 +12,15 @@ use Rattle.liquid_std.specs.declared.tag_plugins.StdTags.{StdTags}
 use Rattle.liquid_std.specs.meaning.Languages.{meaning_of as standard_meaning}
 use Rattle.std_filters.specs.declared.kinds.StdKind.{StdKind}
 use Rattle.std_filters.specs.declared.plugin.FilterPlugin.{FilterPlugin}
+use Rattle.liquid_c.specs.declared.moments.MomentFault.{MomentFault}
+use Rattle.liquid_c.specs.declared.moments.MomentFault.TheVariants.{NoMoment, NoMemory}
 use Rattle.liquid_c.specs.declared.page.Outcome.{Outcome}
+use Rattle.liquid_c.specs.declared.page.Page.{Page}
 use Rattle.liquid_c.specs.declared.languages.Chosen.{Chosen}
 use Rattle.liquid_c.specs.declared.languages.Chosen.TheVariants as chosen
 use Rattle.liquid_c.specs.meaning.Languages.{filter_made, plain_language, standard_language}
+use Rattle.liquid_c.specs.meaning.Moments.{HasMoment, LacksMoment}
 use Rattle.liquid_c.specs.meaning.Options.{has_standard}
-use Rattle.liquid_c.specs.meaning.Outcomes.{outcome_alone}
 
 abbrev pub PlainLanguage : Type 0
 PlainLanguage = Rc (Language (FilterPlugin StdKind) Tags Blocks) Global
@@ -24,13 +28,32 @@ PlainLanguage = Rc (Language (FilterPlugin StdKind) Tags Blocks) Global
 abbrev pub StandardLanguage : Type 0
 StandardLanguage = Rc (Language (FilterPlugin StdKind) StdTags StdBlocks) Global
 
-abbrev pub IsChosen : ℕ → Chosen → Type 0
-IsChosen options chosen.NoOptions = 16 ≤ options
-IsChosen options chosen.NoMemory = options < 16
-IsChosen options (chosen.Plain l) = (options < 16) × ((has_standard options ≡ false) × (meaning_of filter_made l.value ≡ plain_language))
-IsChosen options (chosen.Standard l) =
-    (options < 16) × ((has_standard options ≡ true) × (standard_meaning filter_made l.value ≡ standard_language))
+-- the moment of a page, as it was read
+abbrev pub IsGiven : Page → Result (Option DateTime) MomentFault → Type 0
+IsGiven asked (Ok now) = HasMoment asked now
+IsGiven asked (Err NoMoment) = LacksMoment asked
+IsGiven asked (Err NoMemory) = Unit {0}
 
--- a page is refused with an outcome of this kind, and nothing is written
-abbrev pub IsRefused : ℕ → List ℕ → List ℕ → List ℕ → Outcome → Type 0
-IsRefused kind globals old new o = (o ≡ outcome_alone kind) × (new ≡ old)
+-- the language with this moment, if there was memory for it
+abbrev pub IsChosenAt : Option DateTime → Bool → Chosen → Type 0
+IsChosenAt now standard chosen.NoOptions = ⊥
+IsChosenAt now standard chosen.NoMoment = ⊥
+IsChosenAt now standard chosen.NoMemory = Unit {0}
+IsChosenAt now standard (chosen.Plain l) = (standard ≡ false) × (meaning_of filter_made l.value ≡ plain_language)
+IsChosenAt now standard (chosen.Standard l) = (standard ≡ true) × (standard_meaning filter_made l.value ≡ standard_language now)
+
+-- the language with the page's moment
+abbrev pub HasLanguage : Page → Chosen → Type 0
+HasLanguage asked it =
+    (asked.options < 32) × ((now : Option DateTime) × HasMoment asked now × IsChosenAt now (has_standard asked.options) it)
+
+abbrev pub IsChosen : Page → Chosen → Type 0
+IsChosen asked chosen.NoOptions = 32 ≤ asked.options
+IsChosen asked chosen.NoMoment = (asked.options < 32) × LacksMoment asked
+IsChosen asked chosen.NoMemory = asked.options < 32
+IsChosen asked (chosen.Plain l) = HasLanguage asked (chosen.Plain l)
+IsChosen asked (chosen.Standard l) = HasLanguage asked (chosen.Standard l)
+
+-- a page is refused with this outcome, and nothing is written
+abbrev pub IsRefused : Outcome → List ℕ → List ℕ → List ℕ → Outcome → Type 0
+IsRefused outcome globals old new o = (o ≡ outcome) × (new ≡ old)

@@ -6,30 +6,28 @@ use Rattle.std_filters.specs.declared.beside.Beside.{Beside}
 use Rattle.std_filters.specs.declared.kinds.StdKind.{StdKind}
 use Rattle.std_filters.specs.declared.plugin.FilterPlugin.{FilterPlugin}
 use Rattle.std_filters.specs.meaning.Registered.{filters_beside}
+use Rattle.liquid_jekyll.specs.declared.dates.DateForm.{DateForm}
+use Rattle.liquid_jekyll.specs.declared.dates.DateForm.TheVariants.{Short, Long, Xmlschema, Rfc822}
 use Rattle.liquid_jekyll.specs.declared.kinds.JekyllKind.{JekyllKind}
-use Rattle.liquid_jekyll.specs.declared.kinds.JekyllKind.TheVariants.{
-  ArrayToSentenceString,
-  CgiEscape,
-  Inspect,
-  Jsonify,
-  NormalizeWhitespace,
-  NumberOfWords,
-  Pop,
-  Push,
-  Shift,
-  Slugify,
-  StripIndex,
-  Unshift,
-  XmlEscape,
-}
+use Rattle.liquid_jekyll.specs.declared.kinds.JekyllKind.TheVariants.{Texts, Lists, Dates}
+use Rattle.liquid_jekyll.specs.declared.list_kinds.JekyllListKind.TheVariants as lists
+use Rattle.liquid_jekyll.specs.declared.text_kinds.JekyllTextKind.TheVariants as texts
 use Rattle.liquid_jekyll.specs.meaning.Senses.{jekyll_sense}
 
+-- a filter that writes dates in a form
+abbrev pub date_kind : Option DateTime → DateForm → JekyllKind
+date_kind now form = Dates (record { form = form; now = now })
+
 -- Jekyll's own filters
-abbrev pub jekyll_kinds : List JekyllKind
-jekyll_kinds =
-    ArrayToSentenceString ∷ CgiEscape ∷ Inspect ∷ Jsonify ∷ NormalizeWhitespace ∷ NumberOfWords ∷ Pop ∷ Push ∷ Shift ∷ Slugify
-    ∷ StripIndex ∷ Unshift ∷ XmlEscape ∷ []
+abbrev pub jekyll_kinds : Option DateTime → List JekyllKind
+jekyll_kinds now =
+    Texts texts.CgiEscape ∷ Texts texts.Inspect ∷ Texts texts.Jsonify ∷ Texts texts.NormalizeWhitespace
+    ∷ Texts texts.NumberOfWords ∷ Texts texts.Slugify ∷ Texts texts.StripIndex ∷ Texts texts.ToInteger
+    ∷ Texts texts.UriEscape ∷ Texts texts.XmlEscape ∷ Lists lists.ArrayToSentenceString ∷ Lists lists.Find
+    ∷ Lists lists.GroupBy ∷ Lists lists.Pop ∷ Lists lists.Push ∷ Lists lists.Shift ∷ Lists lists.Sort
+    ∷ Lists lists.Unshift ∷ Lists lists.Where ∷ date_kind now Short ∷ date_kind now Long ∷ date_kind now Xmlschema
+    ∷ date_kind now Rfc822 ∷ []
 
 -- the standard filters and these, which replace those of the same name
 abbrev pub jekyll_filters : Option DateTime → NameMap (FilterPlugin (Beside StdKind JekyllKind))
-jekyll_filters now = filters_beside jekyll_sense now jekyll_kinds
+jekyll_filters now = filters_beside jekyll_sense now (jekyll_kinds now)

@@ -9,8 +9,8 @@ loop-place-init c = record { turns = λ out. begun; later = refl; size = refl }
 pub loop-place-preserved : goal.loop-place-preserved
 loop-place-preserved c = record {
   turns =
-      λ out. refused_turn (λ g. g.now) c.args.kind out c.args.globals.now c.loop-place.outcomes c.loop-place.place _ (search rules)
-      (search rules) c.requires (c.loop-place.invariant.turns out) c.refused.ensures;
+      λ out. refused_turn (λ g. g.now) c.args.refusal out c.args.globals.now c.loop-place.outcomes c.loop-place.place (search rules)
+      (search rules) c.requires.error c.requires.nothing (c.loop-place.invariant.turns out);
   later = later_turn c.loop-place.outcomes c.args.outcomes.now c.loop-place.place _ c.loop-place.invariant.later;
   size = search rules;
 }

@@ -1,18 +1,25 @@
-use Rattle.liquid_c.proofs.AskedLemmas.{memory_asked, none_asked, plain_asked, standard_asked}
+use Rattle.std.proofs.Common.{inl, ◌∙◌}
+use Rattle.liquid_c.proofs.AskedLemmas.{memory_asked, momentless_asked, none_asked, plain_asked, standard_asked}
 use Rattle.liquid_c.proofs.LeavesLemmas.{nothing_left}
 use Rattle.liquid_c.proofs.TurnLemmas.{all_leave}
 use Rattle.liquid_c.proofs.each.render_each.Goals as goal
 
 pub returns-in-NoOptions : goal.returns-in-NoOptions
 returns-in-NoOptions c =
-    all_leave (λ globals old new o refused. none_asked c.args.page.now globals old new o c.choose_language.result c.choose_language.ensures
-    c.in-NoOptions.is refused) (c.refuse_each.ensures c.args.out.now)
+    all_leave (λ globals old new o left. none_asked c.args.page.now globals old new o c.choose_language.result c.choose_language.ensures
+    c.in-NoOptions.is (left.0 ∙ c.refused.ensures, left.1)) (c.refuse_each.ensures c.args.out.now)
+
+pub returns-in-NoMoment : goal.returns-in-NoMoment
+returns-in-NoMoment c =
+    all_leave (λ globals old new o left. momentless_asked c.args.page.now globals old new o c.choose_language.result
+    c.choose_language.ensures c.in-NoMoment.is (inl (left.0 ∙ c.refuse_moment.ensures), left.1))
+    (c.refuse_each-in-NoMoment.ensures c.args.out.now)
 
 pub returns-in-NoMemory : goal.returns-in-NoMemory
 returns-in-NoMemory c =
-    all_leave (λ globals old new o refused. memory_asked c.args.page.now globals old new o c.choose_language.result
-    c.choose_language.ensures c.in-NoMemory.is
-    (λ page. nothing_left page old new o refused.0 refused.1))
+    all_leave (λ globals old new o left. memory_asked c.args.page.now globals old new o c.choose_language.result
+    c.choose_language.ensures c.in-NoMemory.is (left.0 ∙ c.refused-in-NoMemory.ensures) left.1
+    (λ page. nothing_left page old new o (left.0 ∙ c.refused-in-NoMemory.ensures) left.1))
     (c.refuse_each-in-NoMemory.ensures c.args.out.now)
 
 pub returns-in-Plain : goal.returns-in-Plain

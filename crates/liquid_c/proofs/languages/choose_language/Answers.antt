@@ -1,26 +1,17 @@
-use Rattle.std.proofs.Common.{rules, ◌≡◌}
-use Rattle.liquid_tags.specs.meaning.Languages.{meaning_of}
-use Rattle.liquid_std.specs.meaning.Languages.{meaning_of as standard_meaning}
-use Rattle.liquid_c.specs.meaning.Languages.{filter_made, plain_language, standard_language}
-use Rattle.liquid_c.proofs.ChosenLemmas.{made}
+use Rattle.std.proofs.Common.{rules, subst}
+use Rattle.liquid_c.specs.steps.Chosen.{IsChosenAt}
+use Rattle.liquid_c.proofs.ChosenLemmas.{given, given_none, with_moment}
 use Rattle.liquid_c.proofs.languages.choose_language.Goals as goal
 
 pub returns-in-Ok : goal.returns-in-Ok
-returns-in-Ok c = (
-  search rules,
-  (
-    search rules,
-    made (λ l. standard_meaning filter_made l.value ≡ standard_language) c.standard_language.result
-        c.in-Ok.language c.in-Ok.is c.standard_language.ensures,
-  ),
-)
+returns-in-Ok c =
+    with_moment c.args.page.now c.in-Ok.now c.language_at.result (search rules)
+    (given c.args.page.now c.given_moment.result _ c.in-Ok.is c.given_moment.ensures)
+    (subst (λ standard. IsChosenAt c.in-Ok.now standard c.language_at.result) c.has_bit.ensures c.language_at.ensures)
 
-pub returns-in-Ok-plain_language : goal.returns-in-Ok-plain_language
-returns-in-Ok-plain_language c = (
+pub returns-in-Err-NoMoment : goal.returns-in-Err-NoMoment
+returns-in-Err-NoMoment c = (
   search rules,
-  (
-    search rules,
-    made (λ l. meaning_of filter_made l.value ≡ plain_language) c.plain_language.result
-        c.in-Ok-plain_language.language c.in-Ok-plain_language.is c.plain_language.ensures,
-  ),
+  given_none c.args.page.now c.given_moment.result c.in-Err-NoMoment.field-0 c.in-Err-NoMoment.is c.in-Err-NoMoment.field-0-is
+      c.given_moment.ensures,
 )

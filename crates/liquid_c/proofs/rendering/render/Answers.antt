@@ -1,5 +1,5 @@
-use Rattle.std.proofs.Common.{refl}
-use Rattle.liquid_c.proofs.AskedLemmas.{memory_asked, none_asked, plain_asked, standard_asked}
+use Rattle.std.proofs.Common.{refl, inl}
+use Rattle.liquid_c.proofs.AskedLemmas.{memory_asked, momentless_asked, none_asked, plain_asked, standard_asked}
 use Rattle.liquid_c.proofs.LeavesLemmas.{nothing_left}
 use Rattle.liquid_c.proofs.rendering.render.Goals as goal
 
@@ -8,10 +8,15 @@ returns-in-NoOptions c =
     none_asked c.args.page.now c.args.page.now.globals.now _ _ _ c.choose_language.result c.choose_language.ensures c.in-NoOptions.is
     (c.refused.ensures, refl)
 
+pub returns-in-NoMoment : goal.returns-in-NoMoment
+returns-in-NoMoment c =
+    momentless_asked c.args.page.now c.args.page.now.globals.now _ _ _ c.choose_language.result c.choose_language.ensures c.in-NoMoment.is
+    (inl c.refuse_moment.ensures, refl)
+
 pub returns-in-NoMemory : goal.returns-in-NoMemory
 returns-in-NoMemory c =
     memory_asked c.args.page.now c.args.page.now.globals.now _ _ _ c.choose_language.result c.choose_language.ensures c.in-NoMemory.is
-    (λ page. nothing_left page _ _ _ c.refused-in-NoMemory.ensures refl)
+    c.refused-in-NoMemory.ensures refl (λ page. nothing_left page _ _ _ c.refused-in-NoMemory.ensures refl)
 
 pub returns-in-Plain : goal.returns-in-Plain
 returns-in-Plain c =

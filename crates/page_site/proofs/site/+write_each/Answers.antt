@@ -9,7 +9,7 @@ use Rattle.page_site.proofs.site.+write_each.Goals.{then-status-eq0, else-status
 
 pub returns-after-status-eq0-clause-written : goal.returns-after-status-eq0-clause-written
 returns-after-status-eq0-clause-written g t c =
-    let one = c.report-one.result in
+    let one = c.write_one-one.result in
     let next : c.if-status-eq0.status ≡ (if c.args.status == 0 then one else c.args.status) =
     elim c.if-status-eq0.branch [
       | then-status-eq0 w ↦
@@ -20,10 +20,9 @@ returns-after-status-eq0-clause-written g t c =
           w.status-is ∙ sym (ap (λ b. if b then one else c.args.status) no)
     ] in
     let all : map item_of c.args.items.now ≡ item_of c.in-Some.item.now ∷ map item_of c.in-Some.rest.now = search rules in
-    items_written (g.E.Engine.answers c.args.engine.now) (g.E.Engine.answers c.write_item-answer.new.engine)
-    (partial_text c.args.site.now.partials) (object_view c.args.site.now.names) (map item_of c.args.items.now)
+    items_written (g.E.Engine.answers c.args.engine.now) (g.E.Engine.answers c.write_one-one.new.engine)
+    (partial_text c.args.site.now.partials.value) (object_view c.args.site.now.names) (map item_of c.args.items.now)
     (item_of c.in-Some.item.now) (map item_of c.in-Some.rest.now) (g.F.Folder.known c.args.files.now)
-    (g.F.Folder.known c.write_item-answer.new.files) (g.F.Folder.known c.write_each.new.files) c.args.status one
-    c.if-status-eq0.status c.write_each.result c.write_item-answer.result all c.write_item-answer.ensures.answers
-    c.write_item-answer.ensures.written c.write_item-answer.ensures.kept c.report-one.ensures.ok c.report-one.ensures.fault next
-    c.write_each.ensures.written
+    (g.F.Folder.known c.write_one-one.new.files) (g.F.Folder.known c.write_each.new.files) c.args.status one
+    c.if-status-eq0.status c.write_each.result all c.write_one-one.ensures.answers
+    c.write_one-one.ensures.written next c.write_each.ensures.written

@@ -12,5 +12,5 @@ returns-in-Ok-clause-written g c =
       made.items,
       c.in_ok-made.ensures.made,
       subst (λ (k : Files). Replaces k (g.F.Folder.known c.replace.new.self) target made.items)
-          (c.make_folders.ensures.same ∙ c.make.ensures.same) replaced,
+          (c.make_folders.ensures.same ∙ c.announce.ensures.same ∙ c.make.ensures.same) replaced,
     )

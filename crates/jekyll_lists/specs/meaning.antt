@@ -1,0 +1,5 @@
+pub mod ItemKeys
+pub mod Own
+pub mod Choosing
+pub mod Ordering
+pub mod Grouping

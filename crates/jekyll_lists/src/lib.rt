@@ -1,0 +1,13 @@
+//! Jekyll's filters on lists by a key of each item.
+#![tactic(auto)]
+
+mod choosing;
+mod comparing;
+mod grouping;
+mod item_keys;
+mod ordering;
+mod own;
+
+pub use choosing::{find, keep_where};
+pub use grouping::group_by;
+pub use ordering::sort;

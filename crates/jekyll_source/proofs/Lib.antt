@@ -1,0 +1,9 @@
+pub mod CutLemmas
+pub mod TagLemmas
+pub mod PieceLemmas
+pub mod NameLemmas
+pub mod NamePartLemmas
+pub mod ParameterLemmas
+pub mod PlainLemmas
+pub mod RewritingLemmas
+pub mod UntouchedLemmas

@@ -1,0 +1,159 @@
+-- The pieces of a text: each leaves less of it.
+use Rattle.std.proofs.Common.{
+  ◌≡◌,
+  ◌≢◌,
+  ℕ,
+  zero,
+  suc,
+  ◌+◌,
+  ◌-◌,
+  ◌<◌,
+  ◌≤◌,
+  Bool,
+  true,
+  false,
+  cond,
+  ◌==◌,
+  ◌&&◌,
+  List,
+  [],
+  ◌∷◌,
+  ◌++◌,
+  Option,
+  Some,
+  None,
+  length,
+  take,
+  drop,
+  codes,
+  flat_map,
+  refl,
+  sym,
+  ap,
+  ◌∙◌,
+  arith,
+  append_assoc,
+  length-drop,
+}
+use Rattle.std.specs.Option.{option_map, option_map_or}
+use Rattle.std.specs.Str.{byte, bytes_eq}
+use Rattle.memchr.specs.Find.{first_of, matches}
+use Rattle.jekyll_source.specs.meaning.Bodies.{body_len, split_body}
+use Rattle.jekyll_source.specs.meaning.Pieces.{
+  Piece,
+  Taken,
+  plain,
+  first_piece,
+  jekyll_text,
+  pieces,
+  pieces_in,
+  plain_len,
+  plain_taken,
+  tag_or_plain,
+  tag_taken,
+  value_or_plain,
+  value_taken,
+  whole_value,
+  written,
+}
+use Rattle.jekyll_source.specs.meaning.Splits.{Parts, after_opener, split_around, split_at}
+use Rattle.jekyll_source.specs.meaning.Tags.{named}
+
+-- what follows an opener is shorter
+pub after_shorter : (kind : ℕ) (text rest : List ℕ) → after_opener kind text ≡ Some rest → length rest + 2 ≡ length text
+after_shorter kind [] rest e = absurd (cc)
+after_shorter kind (a ∷ []) rest e = absurd (cc)
+after_shorter kind (a ∷ b ∷ bs) rest e = go (a == byte "{" && b == kind) refl e
+  where
+    go : (t : Bool) → (a == byte "{" && b == kind) ≡ t → cond t (Some bs) None ≡ Some rest → length rest + 2 ≡ length (a ∷ b ∷ bs)
+    go true is h = let same : bs ≡ rest = cc in rw (sym same) (omega arith)
+    go false is h = absurd (cc)
+
+drop_shorter : (n : ℕ) (text : List ℕ) → length (drop n text) ≤ length text
+drop_shorter n text = omega (arith, length-drop n text)
+
+body_shorter : (name text : List ℕ) → length (split_body name text).1 ≤ length text
+body_shorter name text = go (bytes_eq name (codes "raw")) (bytes_eq name (codes "comment"))
+  where
+    raw_body : Parts
+    raw_body = split_at (body_len None (codes "endraw") 0 text) text
+
+    comment_body : Parts
+    comment_body = split_at (body_len (Some (codes "comment")) (codes "endcomment") 0 text) text
+
+    go : (t u : Bool) → length (cond t (split_at (body_len None (codes "endraw") 0 text) text)
+        (cond u (split_at (body_len (Some (codes "comment")) (codes "endcomment") 0 text) text) (split_at 0 text))).1 ≤ length text
+    go true u = drop_shorter _ text
+    go false true = drop_shorter _ text
+    go false false = drop_shorter 0 text
+
+module _ (text rest : List ℕ) where
+  tag_shorter : (closer : List ℕ) (r : Option ℕ)
+      → length (option_map_or tag_taken (option_map (λ at. (take at rest, drop (at + length closer) rest)) r) (plain text, [])).1 ≤ length rest
+  tag_shorter closer None = omega arith
+  tag_shorter closer (Some at) =
+      let after = drop (at + length closer) rest in
+      omega (arith, body_shorter (named (take at rest)).0 after, drop_shorter (at + length closer) rest)
+
+  value_shorter : (closer : List ℕ) (r : Option ℕ)
+      → length (option_map_or value_taken (option_map (λ at. (take at rest, drop (at + length closer) rest)) r) (plain text, [])).1 ≤ length rest
+  value_shorter closer None = omega arith
+  value_shorter closer (Some at) = drop_shorter (at + length closer) rest
+
+plain_shorter : (b : ℕ) (bs : List ℕ) → length (plain_taken (split_at (plain_len (b ∷ bs)) (b ∷ bs))).1 ≤ length bs
+plain_shorter b bs = omega (arith, length-drop (plain_len (b ∷ bs)) (b ∷ bs))
+
+-- the first piece leaves less of a text
+pub first_shorter : (b : ℕ) (bs : List ℕ) → length (first_piece (b ∷ bs)).1 ≤ length bs
+first_shorter b bs = tagged (after_opener (byte "%") (b ∷ bs)) refl
+  where
+    text : List ℕ
+    text = b ∷ bs
+
+    valued : (o : Option (List ℕ)) → after_opener (byte "{") (b ∷ bs) ≡ o
+        → length (option_map_or (λ rest. whole_value (b ∷ bs) rest) o (plain_taken (split_at (plain_len (b ∷ bs)) (b ∷ bs)))).1 ≤ length bs
+    valued None e = plain_shorter b bs
+    valued (Some rest) e = omega (
+      arith,
+      after_shorter (byte "{") (b ∷ bs) rest e,
+      value_shorter (b ∷ bs) rest (codes "}}") (first_of (matches rest (codes "}}") 0)),
+    )
+
+    tagged : (o : Option (List ℕ)) → after_opener (byte "%") (b ∷ bs) ≡ o
+        → length (option_map_or (λ rest. tag_or_plain (b ∷ bs) rest) o (value_or_plain (b ∷ bs))).1 ≤ length bs
+    tagged None e = valued (after_opener (byte "{") (b ∷ bs)) refl
+    tagged (Some rest) e = omega (
+      arith,
+      after_shorter (byte "%") (b ∷ bs) rest e,
+      tag_shorter (b ∷ bs) rest (codes "%}") (first_of (matches rest (codes "%}") 0)),
+    )
+
+-- as many pieces as bytes are all pieces
+pub all_pieces : (n m : ℕ) (text : List ℕ) → length text ≤ n → length text ≤ m → pieces_in n text ≡ pieces_in m text
+all_pieces zero zero text h k = refl
+all_pieces zero (suc m) [] h k = refl
+all_pieces (suc n) zero [] h k = refl
+all_pieces (suc n) (suc m) [] h k = refl
+all_pieces zero (suc m) (b ∷ bs) h k = absurd (omega arith)
+all_pieces (suc n) zero (b ∷ bs) h k = absurd (omega arith)
+all_pieces (suc n) (suc m) (b ∷ bs) h k =
+    let less = first_shorter b bs in
+    ap (λ ps. (first_piece (b ∷ bs)).0 ∷ ps) (all_pieces n m (first_piece (b ∷ bs)).1 (omega arith) (omega arith))
+
+pub next_piece : (b : ℕ) (bs : List ℕ) → pieces (b ∷ bs) ≡ (first_piece (b ∷ bs)).0 ∷ pieces (first_piece (b ∷ bs)).1
+next_piece b bs =
+    let less = first_shorter b bs in
+    ap (λ ps. (first_piece (b ∷ bs)).0 ∷ ps) (all_pieces (length bs) (length (first_piece (b ∷ bs)).1) (first_piece (b ∷ bs)).1 less (omega arith))
+
+-- what is written for a text: that for its first piece, and for the rest
+pub next_written : (text : List ℕ) → text ≢ [] → jekyll_text text ≡ written (first_piece text).0 ++ jekyll_text (first_piece text).1
+next_written [] more = absurd (more refl)
+next_written (b ∷ bs) more = ap (flat_map written) (next_piece b bs)
+
+-- one turn over the pieces of a text
+pub turn : (out new whole text rest : List ℕ) (p : Piece) → text ≢ [] → (p, rest) ≡ first_piece text → new ≡ out ++ written p
+    → out ++ jekyll_text text ≡ whole → new ++ jekyll_text rest ≡ whole
+turn out new whole text rest p more is grown held =
+    ap (λ l. l ++ jekyll_text rest) grown ∙ append_assoc out (written p) (jekyll_text rest)
+    ∙ ap (λ t. out ++ (written t.0 ++ jekyll_text t.1)) is
+    ∙ ap (λ l. out ++ l) (sym (next_written text more)) ∙ held

@@ -1,0 +1,11 @@
+-- Pieces that are written as they are.
+use Rattle.std.specs.Prelude.{◌≡◌, false}
+use Rattle.jekyll_source.specs.meaning.Pieces.{Piece, plain, value, tag}
+use Rattle.jekyll_source.specs.meaning.Rewriting.{takes_name}
+use Rattle.jekyll_source.specs.meaning.Tags.{tag_of}
+
+-- no tag that takes a name
+abbrev pub TakesNoName : Piece → Type 0
+TakesNoName (plain text) = Unit {0}
+TakesNoName (value inner) = Unit {0}
+TakesNoName (tag inner body) = takes_name (tag_of inner).name ≡ false

@@ -1,0 +1,5 @@
+pub mod Parts
+pub mod Cuts
+pub mod Parting
+pub mod PartsOf
+pub mod Path

@@ -1,0 +1,88 @@
+//! The kinds of Jekyll's filters on lists.
+ghost use Rattle.liquid_jekyll.specs.meaning.Senses.{list_sense};
+
+use crate::parameters::{CONNECTOR, COUNT, ITEM, KEY, KEY_AND_VALUE, SORT, WHERE};
+use jekyll_lists::{find, group_by, keep_where, sort};
+use jekyll_values::{array_to_sentence_string, pop, push, shift, unshift};
+use liquid_error::Error;
+use liquid_value::Value;
+use std::alloc::Global;
+use std_filters::{CallArguments, FilterKind, FilterRow};
+
+/// A filter of Jekyll on a list.
+#[derive(Debug, Clone, Copy, PartialEq, Eq, Drop)]
+pub enum JekyllListKind {
+    ArrayToSentenceString,
+    Find,
+    GroupBy,
+    Pop,
+    Push,
+    Shift,
+    Sort,
+    Unshift,
+    Where,
+}
+
+impl FilterKind for JekyllListKind {
+    ghost sense = { list_sense };
+
+    fn row(&self) -> FilterRow {
+        match self {
+            JekyllListKind::ArrayToSentenceString => FilterRow::new(
+                "array_to_sentence_string",
+                "The items as they are listed in a sentence.",
+                &CONNECTOR,
+            ),
+            JekyllListKind::Find => FilterRow::new(
+                "find",
+                "The first item whose key fits a value.",
+                &KEY_AND_VALUE,
+            ),
+            JekyllListKind::GroupBy => {
+                FilterRow::new("group_by", "The items in groups by a key.", &KEY)
+            }
+            JekyllListKind::Pop => {
+                FilterRow::new("pop", "The array without its last items.", &COUNT)
+            }
+            JekyllListKind::Push => FilterRow::new(
+                "push",
+                "The array with one more item at its end.",
+                &ITEM,
+            ),
+            JekyllListKind::Shift => {
+                FilterRow::new("shift", "The array without its first items.", &COUNT)
+            }
+            JekyllListKind::Sort => {
+                FilterRow::new("sort", "The items in the order of a key.", &SORT)
+            }
+            JekyllListKind::Unshift => FilterRow::new(
+                "unshift",
+                "The array with one more item at its start.",
+                &ITEM,
+            ),
+            JekyllListKind::Where => {
+                FilterRow::new("where", "The items whose key fits a value.", &WHERE)
+            }
+        }
+    }
+
+    fn answer(
+        &self,
+        alloc: Global,
+        input: &Value,
+        arguments: &CallArguments<'_>,
+    ) -> Result<Value, Error> {
+        let given = arguments.positional;
+        match self {
+            JekyllListKind::ArrayToSentenceString => array_to_sentence_string(alloc, input, given),
+            JekyllListKind::Find => find(alloc, input, given),
+            JekyllListKind::GroupBy => group_by(alloc, input, given),
+            JekyllListKind::Pop => pop(alloc, input, given),
+            JekyllListKind::Push => push(alloc, input, given),
+            JekyllListKind::Shift => shift(alloc, input, given),
+            JekyllListKind::Sort => sort(alloc, input, given),
+            JekyllListKind::Unshift => unshift(alloc, input, given),
+            JekyllListKind::Where => keep_where(alloc, input, given),
+        }
+    }
+}

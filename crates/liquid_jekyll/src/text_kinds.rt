@@ -1,0 +1,89 @@
+//! The kinds of Jekyll's filters on texts.
+ghost use Rattle.liquid_jekyll.specs.meaning.Senses.{text_sense};
+
+use crate::inspection::inspect;
+use crate::parameters::{MODE, NONE};
+use jekyll_values::{
+    normalize_whitespace, number_of_words, slugify, strip_index, to_integer, uri_escape, xml_escape,
+};
+use liquid_error::Error;
+use liquid_value::Value;
+use std::alloc::Global;
+use std_filters::json_text::json;
+use std_filters::{CallArguments, FilterKind, FilterRow};
+use std_texts::url_encode;
+
+/// A filter of Jekyll on a text.
+#[derive(Debug, Clone, Copy, PartialEq, Eq, Drop)]
+pub enum JekyllTextKind {
+    CgiEscape,
+    Inspect,
+    Jsonify,
+    NormalizeWhitespace,
+    NumberOfWords,
+    Slugify,
+    StripIndex,
+    ToInteger,
+    UriEscape,
+    XmlEscape,
+}
+
+impl FilterKind for JekyllTextKind {
+    ghost sense = { text_sense };
+
+    fn row(&self) -> FilterRow {
+        match self {
+            JekyllTextKind::CgiEscape => {
+                FilterRow::new("cgi_escape", "The text for a URL.", &NONE)
+            }
+            JekyllTextKind::Inspect => {
+                FilterRow::new("inspect", "The input as JSON, for XML.", &NONE)
+            }
+            JekyllTextKind::Jsonify => FilterRow::new("jsonify", "The input as JSON.", &NONE),
+            JekyllTextKind::NormalizeWhitespace => FilterRow::new(
+                "normalize_whitespace",
+                "With one space for each run of white space.",
+                &NONE,
+            ),
+            JekyllTextKind::NumberOfWords => {
+                FilterRow::new("number_of_words", "How many words there are.", &MODE)
+            }
+            JekyllTextKind::Slugify => {
+                FilterRow::new("slugify", "The text as a part of a URL.", &MODE)
+            }
+            JekyllTextKind::StripIndex => FilterRow::new(
+                "strip_index",
+                "The path without the name of an index page.",
+                &NONE,
+            ),
+            JekyllTextKind::ToInteger => {
+                FilterRow::new("to_integer", "The input as a whole number.", &NONE)
+            }
+            JekyllTextKind::UriEscape => {
+                FilterRow::new("uri_escape", "The text as a URL.", &NONE)
+            }
+            JekyllTextKind::XmlEscape => FilterRow::new("xml_escape", "The text for XML.", &NONE),
+        }
+    }
+
+    fn answer(
+        &self,
+        alloc: Global,
+        input: &Value,
+        arguments: &CallArguments<'_>,
+    ) -> Result<Value, Error> {
+        let given = arguments.positional;
+        match self {
+            JekyllTextKind::CgiEscape => url_encode(alloc, input),
+            JekyllTextKind::Inspect => inspect(alloc, input),
+            JekyllTextKind::Jsonify => json(alloc, input),
+            JekyllTextKind::NormalizeWhitespace => normalize_whitespace(alloc, input),
+            JekyllTextKind::NumberOfWords => number_of_words(alloc, input, given),
+            JekyllTextKind::Slugify => slugify(alloc, input, given),
+            JekyllTextKind::StripIndex => strip_index(alloc, input),
+            JekyllTextKind::ToInteger => to_integer(alloc, input),
+            JekyllTextKind::UriEscape => uri_escape(alloc, input),
+            JekyllTextKind::XmlEscape => xml_escape(alloc, input),
+        }
+    }
+}

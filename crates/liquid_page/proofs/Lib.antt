@@ -1,0 +1,4 @@
+pub mod EngineLemmas
+pub mod ListNames
+pub mod NameLemmas
+pub mod PageLemmas

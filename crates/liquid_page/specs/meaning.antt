@@ -1,0 +1,4 @@
+pub mod Answered
+pub mod Command
+pub mod Names
+pub mod Requests

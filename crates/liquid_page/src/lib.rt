@@ -1,0 +1,21 @@
+//! The command `liquid page`: the names that pages see, the files they are made of, and where they go.
+#![tactic(auto)]
+
+pub mod check;
+pub mod engine;
+pub mod fault;
+pub mod names;
+pub mod plan;
+pub mod request;
+pub mod run;
+mod shared;
+mod warnings;
+pub mod words;
+
+pub use check::check_pages;
+pub use engine::{Explain, PageEngine};
+pub use fault::Fault;
+pub use request::Request;
+pub use run::{Outcome, run_page};
+pub use shared::SharedSource;
+pub use words::{NoRequest, Task, read_words};

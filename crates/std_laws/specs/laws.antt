@@ -1,0 +1,5 @@
+pub mod Bodies
+pub mod ForRuns
+pub mod ForLoops
+pub mod TableRuns
+pub mod Tables
