@@ -8,8 +8,8 @@ use Rattle.liquid_value.specs.meaning.Members.{put_member}
 use Rattle.liquid_value.specs.meaning.Tree.{Tree}
 use Rattle.liquid_value.specs.meaning.View.{view, members_view}
 use Rattle.liquid_value.proofs.Entries.{Entry, members_view-insert_entry}
-use Rattle.std_lists.specs.meaning.Choices.{distinct, keys_of}
-use Rattle.std_lists.proofs.DistinctLemmas.{is_seen, unseen, unseen-new, unseen-old}
+use Rattle.filter_lists.specs.meaning.Choices.{distinct, keys_of}
+use Rattle.filter_lists.proofs.DistinctLemmas.{is_seen, unseen, unseen-new, unseen-old}
 
 pub inserted : (es : List Entry) (k : String Global) (v : Value)
     → members_view (insert_entry string_cmp es k v) ≡ put_member (string_bytes k) (view v) (members_view es)

@@ -4,8 +4,8 @@ ghost use Rattle.std.specs.List.{list_any};
 ghost use Rattle.liquid_error.specs.meaning.Told.{Gives};
 ghost use Rattle.liquid_value.specs.meaning.Cow.{cow_view};
 ghost use Rattle.liquid_value.specs.meaning.View.{view as tree_of, members_view};
-ghost use Rattle.std_lists.specs.meaning.Choices.{having};
-ghost use Rattle.std_lists.specs.meaning.Entries.{entry_view};
+ghost use Rattle.filter_lists.specs.meaning.Choices.{having};
+ghost use Rattle.filter_lists.specs.meaning.Entries.{entry_view};
 ghost use Rattle.jekyll_lists.specs.meaning.Choosing as Spec;
 
 use crate::item_keys::keyed;
@@ -14,10 +14,10 @@ use liquid_error::Error;
 use liquid_scalar::ScalarOf;
 use liquid_value::{Object, Value, ValueCow};
 use std::alloc::{AllocError, Global};
-use std_lists::choices;
-use std_lists::keys::Entry;
-use std_values::errors::unexpected_arguments;
-use std_values::items::items;
+use filter_lists::choices;
+use filter_lists::keys::Entry;
+use filter_values::errors::unexpected_arguments;
+use filter_values::items::items;
 
 /// Returns the items whose key fits the second argument. Without it, the standard filter is meant.
 ///

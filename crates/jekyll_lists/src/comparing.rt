@@ -3,7 +3,7 @@ ghost use Rattle.std.specs.Prelude.{◌≡◌, string_bytes};
 ghost use Rattle.liquid_scalar.specs.meaning.Scalar.{scal};
 ghost use Rattle.liquid_value.specs.meaning.Parts.{is_nil};
 ghost use Rattle.liquid_value.specs.meaning.View.{view as tree_of};
-ghost use Rattle.std_order.specs.meaning.Order.{key_cmp, one_kind, order_in_kind, rank, scalar_rank};
+ghost use Rattle.filter_sorting.specs.meaning.Order.{key_cmp, one_kind, order_in_kind, rank, scalar_rank};
 
 use liquid_scalar::{Scalar, ScalarOf};
 use liquid_value::Value;

@@ -6,9 +6,9 @@ ghost use Rattle.liquid_value.specs.meaning.Cow.{cow_view};
 ghost use Rattle.liquid_value.specs.meaning.Members.{put_member};
 ghost use Rattle.liquid_value.specs.meaning.Strict.{same_value};
 ghost use Rattle.liquid_value.specs.meaning.View.{view as tree_of, members_view};
-ghost use Rattle.std_lists.specs.meaning.Choices.{distinct, keys_of};
-ghost use Rattle.std_lists.specs.meaning.Entries.{entry_view};
-ghost use Rattle.std_lists.specs.meaning.Lists.{list_of};
+ghost use Rattle.filter_lists.specs.meaning.Choices.{distinct, keys_of};
+ghost use Rattle.filter_lists.specs.meaning.Entries.{entry_view};
+ghost use Rattle.filter_lists.specs.meaning.Lists.{list_of};
 ghost use Rattle.jekyll_lists.specs.meaning.Grouping as Spec;
 
 use crate::item_keys::keyed;
@@ -19,8 +19,8 @@ use liquid_scalar::ScalarOf;
 use liquid_value::{Object, Value, ValueCow};
 use std::alloc::{AllocError, Global};
 use std::collections::HashSet;
-use std_lists::keys::Entry;
-use std_values::errors::{array_expected, unexpected_arguments};
+use filter_lists::keys::Entry;
+use filter_values::errors::{array_expected, unexpected_arguments};
 
 /// Returns the groups of items whose keys have the same text, in the order of their first items. A group is an object of
 /// `name`, the text, `items` and `size`.

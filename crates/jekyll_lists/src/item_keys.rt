@@ -3,7 +3,7 @@ ghost use Rattle.std.specs.Prelude.{◌≡◌, map};
 ghost use Rattle.liquid_error.specs.meaning.Told.{Gives};
 ghost use Rattle.liquid_value.specs.meaning.Cow.{cow_view};
 ghost use Rattle.liquid_value.specs.meaning.View.{view as tree_of};
-ghost use Rattle.std_lists.specs.meaning.Entries.{entry_view};
+ghost use Rattle.filter_lists.specs.meaning.Entries.{entry_view};
 ghost use Rattle.jekyll_lists.specs.meaning.ItemKeys as Spec;
 
 use jekyll_texts::strip_spaces;
@@ -12,9 +12,9 @@ use liquid_scalar::{ScalarCow, ScalarOf};
 use liquid_value::{Value, ValueCow};
 use std::alloc::Global;
 use std::borrow::CowStr;
-use std_lists::keys::Entry;
-use std_strings::split;
-use std_values::parts::property;
+use filter_lists::keys::Entry;
+use liquid_strings::split;
+use filter_values::parts::property;
 
 /// Returns each item with its key by a path.
 pub(crate) fn keyed<'v>(

@@ -4,10 +4,10 @@ ghost use Rattle.std.specs.List.{list_all};
 ghost use Rattle.liquid_error.specs.meaning.Told.{Gives, told};
 ghost use Rattle.liquid_value.specs.meaning.Cow.{cow_view};
 ghost use Rattle.liquid_value.specs.meaning.View.{view as tree_of, members_view};
-ghost use Rattle.std_lists.specs.meaning.Choices.{items_in, keys_of};
-ghost use Rattle.std_lists.specs.meaning.Entries.{entry_view};
-ghost use Rattle.std_lists.specs.meaning.Lists.{list_of};
-ghost use Rattle.std_order.specs.meaning.Order.{comes_before, in_order, one_kind};
+ghost use Rattle.filter_lists.specs.meaning.Choices.{items_in, keys_of};
+ghost use Rattle.filter_lists.specs.meaning.Entries.{entry_view};
+ghost use Rattle.filter_lists.specs.meaning.Lists.{list_of};
+ghost use Rattle.filter_sorting.specs.meaning.Order.{comes_before, in_order, one_kind};
 ghost use Rattle.jekyll_lists.specs.meaning.Ordering as Spec;
 
 use crate::comparing::{compare_keys, is_nil, one_kind};
@@ -18,9 +18,9 @@ use liquid_scalar::ScalarOf;
 use liquid_value::render::{ValueRender, ValueSource};
 use liquid_value::{Object, Value, ValueCow};
 use std::alloc::{AllocError, Global};
-use std_lists::keys::Entry;
-use std_order::order;
-use std_values::errors::{array_expected, unexpected_arguments};
+use filter_lists::keys::Entry;
+use filter_sorting::order;
+use filter_values::errors::{array_expected, unexpected_arguments};
 
 /// Where items without a key are put.
 #[derive(Debug, Clone, Copy, PartialEq, Eq)]

@@ -1,7 +1,7 @@
 //! The items that an array or an object has itself.
 ghost use Rattle.std.specs.Prelude.{◌≡◌, ◌++◌, map, option_map, IfOk, OnOk};
 ghost use Rattle.liquid_value.specs.meaning.View.{view as tree_of, items_view, members_view};
-ghost use Rattle.std_values.specs.meaning.Items.{own_items};
+ghost use Rattle.filter_values.specs.meaning.Items.{own_items};
 ghost use Rattle.jekyll_lists.specs.meaning.Own as Spec;
 
 use liquid_value::{Array, Object, Value};

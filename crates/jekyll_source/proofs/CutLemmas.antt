@@ -38,7 +38,7 @@ use Rattle.std.specs.List.{prefix_len, suffix_len}
 use Rattle.std.specs.Option.{IfSome}
 use Rattle.std.specs.Str.{IsCharBoundary, byte}
 use Rattle.memchr.specs.Find.{FindsNeedle}
-use Rattle.std_strings.proofs.PlaceLemmas.{cut_after, cut_before}
+use Rattle.liquid_strings.proofs.PlaceLemmas.{cut_after, cut_before}
 use Rattle.jekyll_source.specs.declared.splits.ByteSet.{ByteSet}
 use Rattle.jekyll_source.specs.declared.splits.ByteSet.TheVariants.{White, Blank, Word}
 use Rattle.jekyll_source.specs.meaning.Splits.{dash_len, end_dash_len}

@@ -70,7 +70,7 @@ use Rattle.jekyll_source.proofs.PieceLemmas.{first_shorter}
 use Rattle.jekyll_source.proofs.RewritingLemmas.{no_name}
 use Rattle.memchr.proofs.lemmas.MatchLemmas.{OccursAt-split}
 use Rattle.std.proofs.lemmas.List.Elements.{All-head, All-tail}
-use Rattle.std_strings.proofs.PlaceLemmas.{first_match}
+use Rattle.liquid_strings.proofs.PlaceLemmas.{first_match}
 
 -- a piece without a name to rewrite is written as it is
 as_it_is : (p : Piece) → TakesNoName p → written p ≡ bytes_of p

@@ -7,7 +7,7 @@ ghost use Rattle.jekyll_source.specs.steps.Parts.{quote_byte};
 
 use crate::literals::{Quote, push_between, push_literal};
 use std::alloc::{AllocError, Global};
-use std_strings::replace;
+use liquid_strings::replace;
 
 /// A text in quotes, with what is before and after it.
 #[derive(Debug, Clone, Copy)]

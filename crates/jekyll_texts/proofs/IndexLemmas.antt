@@ -7,8 +7,8 @@ use Rattle.std.specs.Option.{option_map_or}
 use Rattle.std.specs.Str.{IsCharBoundary, IsUtf8}
 use Rattle.std.proofs.lemmas.List.{drop-drop, drop_more, length-drop, take_more}
 use Rattle.memchr.specs.Find.{OccursAt}
-use Rattle.std_strings.proofs.PlaceLemmas.{cut_after, cut_before}
-use Rattle.std_strings.proofs.TagLemmas.{opens_at}
+use Rattle.liquid_strings.proofs.PlaceLemmas.{cut_after, cut_before}
+use Rattle.liquid_strings.proofs.TagLemmas.{opens_at}
 use Rattle.jekyll_texts.specs.meaning.Index.{ends_line, index_length, index_stripped}
 
 -- a text by its first byte

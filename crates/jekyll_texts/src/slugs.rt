@@ -5,7 +5,7 @@ ghost use Rattle.jekyll_texts.specs.meaning.Slugs as Spec;
 use crate::character_sets::CharacterSet;
 use crate::runs::{with_runs_as, without_ends};
 use std::alloc::{AllocError, Global};
-use std_strings::to_lowercase;
+use liquid_strings::to_lowercase;
 
 /// Which characters a slug keeps.
 #[derive(Debug, Clone, Copy, PartialEq, Eq)]

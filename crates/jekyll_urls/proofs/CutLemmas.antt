@@ -7,7 +7,7 @@ use Rattle.std.proofs.lemmas.Bool.{cases_lt}
 use Rattle.std.proofs.lemmas.Bool.Decides.{nat_tests}
 use Rattle.std.proofs.lemmas.List.Sums.{prefix_len_stops}
 use Rattle.std.proofs.lemmas.Str.{IsCharBoundary-before_ascii, IsCharBoundary-end}
-use Rattle.std_strings.proofs.PieceLemmas.{join_by_view}
+use Rattle.liquid_strings.proofs.PieceLemmas.{join_by_view}
 use Rattle.jekyll_urls.specs.meaning.Parting.{is_inside}
 use Rattle.jekyll_urls.specs.meaning.Path.{path_of}
 

@@ -5,7 +5,7 @@ use Rattle.std.proofs.lemmas.List.{drop_all, length-drop, length-map, take_all}
 use Rattle.liquid_value.specs.declared.value.Value.{Value}
 use Rattle.liquid_value.specs.meaning.Tree.{Tree}
 use Rattle.liquid_value.specs.meaning.View.{view, items_of, items_view}
-use Rattle.std_values.specs.meaning.Items.{own_items}
+use Rattle.filter_values.specs.meaning.Items.{own_items}
 use Rattle.jekyll_values.specs.declared.lists.End.{End}
 use Rattle.jekyll_values.specs.declared.lists.End.TheVariants.{First, Last}
 use Rattle.jekyll_values.specs.meaning.Lists.{without}

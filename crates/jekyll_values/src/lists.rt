@@ -4,9 +4,9 @@ ghost use Rattle.liquid_error.specs.meaning.Told.{Gives};
 ghost use Rattle.liquid_value.specs.meaning.Cow.{cow_view};
 ghost use Rattle.liquid_value.specs.meaning.Render.{render};
 ghost use Rattle.liquid_value.specs.meaning.View.{view as tree_of, items_view};
-ghost use Rattle.std_lists.specs.meaning.Lists.{list_of};
-ghost use Rattle.std_strings.specs.meaning.Slices.{count_in};
-ghost use Rattle.std_values.specs.meaning.Items.{own_items};
+ghost use Rattle.filter_lists.specs.meaning.Lists.{list_of};
+ghost use Rattle.liquid_strings.specs.meaning.Slices.{count_in};
+ghost use Rattle.filter_values.specs.meaning.Items.{own_items};
 ghost use Rattle.jekyll_values.specs.meaning.Lists as Spec;
 
 use liquid_error::Error;
@@ -14,9 +14,9 @@ use liquid_scalar::ScalarOf;
 use liquid_value::render::ValueRender;
 use liquid_value::{Array, Value, ValueCow};
 use std::alloc::{AllocError, Global};
-use std_values::errors::unexpected_arguments;
-use std_values::items::items;
-use std_values::numbers::whole;
+use filter_values::errors::unexpected_arguments;
+use filter_values::items::items;
+use filter_values::numbers::whole;
 
 /// Which end of an array is cut.
 #[derive(Debug, Clone, Copy, PartialEq, Eq)]

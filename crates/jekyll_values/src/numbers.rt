@@ -11,8 +11,8 @@ use liquid_scalar::{Scalar, ScalarCow, ScalarOf};
 use liquid_value::Value;
 use std::alloc::Global;
 use std::borrow::CowStr;
-use std_values::errors::whole_number_expected;
-use std_values::numbers::limited;
+use filter_values::errors::whole_number_expected;
+use filter_values::numbers::limited;
 
 /// Returns the whole number of a value: a number itself, 1 for `true`, 0 for `false` and nil, and otherwise the number with
 /// which the text begins after white space, or 0 without one.

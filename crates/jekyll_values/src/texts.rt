@@ -12,8 +12,8 @@ use liquid_error::Error;
 use liquid_scalar::ScalarOf;
 use liquid_value::{Value, ValueCow};
 use std::alloc::{AllocError, Global};
-use std_strings::to_lowercase;
-use std_values::errors::unexpected_arguments;
+use liquid_strings::to_lowercase;
+use filter_values::errors::unexpected_arguments;
 
 /// Returns the text with one space in place of each run of white space, and none at the ends.
 pub fn normalize_whitespace(alloc: Global, input: &Value) -> Result<Value, Error>

@@ -17,9 +17,9 @@ use std::alloc::{AllocError, Global};
 use std::io::{self, IsTerminal};
 use std::rc::Rc;
 use std::time::Instant;
-use std_dates::moment_of;
-use std_filters::{FilterPlugin, StdKind, filters};
-use std_marks::Marks;
+use filter_dates::moment_of;
+use liquid_filters::{FilterPlugin, StdKind, filters};
+use liquid_cycle::Marks;
 
 /// Explains errors as `liquid render --explain` does.
 #[derive(Drop)]

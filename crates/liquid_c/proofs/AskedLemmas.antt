@@ -26,9 +26,9 @@ use Rattle.liquid_scalar.specs.meaning.Scalar.{text}
 use Rattle.liquid_value.specs.meaning.Tree.{scalar}
 use Rattle.liquid_tags.specs.meaning.Languages.{meaning_of}
 use Rattle.liquid_tags.specs.meaning.Library.{library}
-use Rattle.std_dates.proofs.MomentLemmas.{moment_once}
-use Rattle.std_marks.specs.meaning.Held.{marks_alone}
-use Rattle.std_marks.specs.meaning.Marks.{no_marks}
+use Rattle.filter_dates.proofs.MomentLemmas.{moment_once}
+use Rattle.liquid_cycle.specs.meaning.Held.{marks_alone}
+use Rattle.liquid_cycle.specs.meaning.Marks.{no_marks}
 use Rattle.liquid_std.specs.meaning.Languages.{meaning_of as standard_meaning}
 use Rattle.liquid_std.specs.meaning.Standard.{standard}
 use Rattle.liquid_pages.specs.meaning.Shown.{ComesTo, Page, bytes_of_partial}

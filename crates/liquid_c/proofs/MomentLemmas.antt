@@ -5,7 +5,7 @@ use Rattle.std.specs.Str.{IsUtf8}
 use Rattle.liquid_dates.specs.declared.date_time.DateTime.{DateTime}
 use Rattle.liquid_scalar.specs.meaning.Scalar.{text}
 use Rattle.liquid_value.specs.meaning.Tree.{Tree, scalar}
-use Rattle.std_dates.specs.meaning.Moments.{IsMomentOf}
+use Rattle.filter_dates.specs.meaning.Moments.{IsMomentOf}
 use Rattle.liquid_c.specs.meaning.Moments.{Writes}
 
 module _ {E : Type 0} where

@@ -3,7 +3,7 @@ ghost use Rattle.std.specs.Prelude.{◌≡◌, if◌then◌else◌, IfOk};
 ghost use Rattle.std.specs.FinMap.{empty};
 ghost use Rattle.liquid_tags.specs.meaning.Languages.{meaning_of};
 ghost use Rattle.liquid_std.specs.meaning.Languages.{meaning_of as standard_meaning};
-ghost use Rattle.std_filters.specs.meaning.Registered.{standard_filters};
+ghost use Rattle.liquid_filters.specs.meaning.Registered.{standard_filters};
 ghost use Rattle.liquid_c.specs.meaning.Languages.{filter_made, plain_language, standard_language};
 ghost use Rattle.liquid_c.specs.meaning.Options.{has_bit, has_standard, limit_of, page_frame, page_options};
 ghost use Rattle.liquid_c.specs.steps.Chosen.{IsChosen, IsChosenAt};
@@ -17,7 +17,7 @@ use liquid_std::{StdBlocks, StdTags};
 use liquid_tags::{Blocks, Tags};
 use std::alloc::{AllocError, Global};
 use std::rc::Rc;
-use std_filters::{FilterPlugin, StdKind, filters};
+use liquid_filters::{FilterPlugin, StdKind, filters};
 
 /// The tags and blocks of `liquid_tags`, without filters.
 pub(crate) type PlainLanguage = Language<FilterPlugin<StdKind>, Tags, Blocks>;

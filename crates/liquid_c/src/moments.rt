@@ -4,7 +4,7 @@ ghost use Rattle.liquid_dates.specs.declared.date_time.DateTime.{DateTime};
 ghost use Rattle.liquid_scalar.specs.meaning.Scalar.{text};
 ghost use Rattle.liquid_value.specs.meaning.Tree.{scalar};
 ghost use Rattle.liquid_value.specs.meaning.View.{view as tree_of};
-ghost use Rattle.std_dates.specs.meaning.Moments.{IsMomentOf};
+ghost use Rattle.filter_dates.specs.meaning.Moments.{IsMomentOf};
 ghost use Rattle.liquid_c.specs.meaning.Moments.{Writes};
 ghost use Rattle.liquid_c.specs.steps.Chosen.{IsGiven};
 
@@ -14,7 +14,7 @@ use liquid_dates::DateTime;
 use liquid_value::Value;
 use std::alloc::{AllocError, Global};
 use std::str::from_utf8;
-use std_dates::moment_of;
+use filter_dates::moment_of;
 
 /// Why a page has no moment, though its options say that it has one.
 #[derive(Clone, Copy, Drop)]

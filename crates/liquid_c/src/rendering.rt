@@ -32,7 +32,7 @@ use liquid_core::{Error, Fresh, Place};
 use liquid_pages::{PageFault, PageLimit, PageText, Rendered, render_page};
 use std::alloc::Global;
 use std::rc::Rc;
-use std_marks::Marks;
+use liquid_cycle::Marks;
 
 /// The kinds of an outcome that no fault has.
 pub(crate) const NO_MEMORY: u32 = 6;

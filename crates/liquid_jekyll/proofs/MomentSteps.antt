@@ -3,13 +3,13 @@ use Rattle.std.proofs.Common.{◌≡◌, inl, inr, ℕ, List, Bool, false, Optio
 use Rattle.liquid_dates.specs.declared.date_time.DateTime.{DateTime}
 use Rattle.liquid_dates.specs.meaning.Instant.{civil_date}
 use Rattle.liquid_value.specs.meaning.Tree.{Tree}
-use Rattle.std_dates.specs.meaning.Moments.{IsMomentOf}
-use Rattle.std_dates.proofs.Deciding.{Decided}
-use Rattle.std_dates.proofs.MomentLemmas.{moment_of, moment_once}
+use Rattle.filter_dates.specs.meaning.Moments.{IsMomentOf}
+use Rattle.filter_dates.proofs.Deciding.{Decided}
+use Rattle.filter_dates.proofs.MomentLemmas.{moment_of, moment_once}
 use Rattle.liquid_jekyll.specs.declared.dates.DateForm.{DateForm}
 use Rattle.liquid_jekyll.specs.declared.dates.DayStyle.{DayStyle}
 use Rattle.liquid_jekyll.specs.meaning.Dates.{is_kept, pattern, written, written_if, written_moment}
-use Rattle.std_filters.specs.meaning.Dates.{formatted, printed}
+use Rattle.liquid_filters.specs.meaning.Dates.{formatted, printed}
 
 moment_written : (form : DateForm) (style : DayStyle) (now : Option DateTime) (t : Tree) (dt : DateTime) (d : Decided (IsMomentOf now t))
     → IsMomentOf now t dt → written_if {P = IsMomentOf now t} form style t d ≡ written_moment form style dt

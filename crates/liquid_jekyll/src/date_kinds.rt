@@ -7,7 +7,7 @@ use liquid_dates::DateTime;
 use liquid_error::Error;
 use liquid_value::Value;
 use std::alloc::Global;
-use std_filters::{CallArguments, FilterKind, FilterRow};
+use liquid_filters::{CallArguments, FilterKind, FilterRow};
 
 /// A filter that writes a date, with the moment that the texts `now` and `today` mean, if there is one.
 #[derive(Clone, Copy, Drop)]

@@ -6,7 +6,7 @@ ghost use Rattle.liquid_value.specs.meaning.Cow.{cow_view};
 ghost use Rattle.liquid_value.specs.meaning.Render.{render};
 ghost use Rattle.liquid_value.specs.meaning.Tree.{scalar};
 ghost use Rattle.liquid_value.specs.meaning.View.{view as tree_of};
-ghost use Rattle.std_filters.specs.meaning.Dates.{formatted, printed};
+ghost use Rattle.liquid_filters.specs.meaning.Dates.{formatted, printed};
 ghost use Rattle.liquid_jekyll.specs.meaning.Dates as Spec;
 
 use liquid_dates::DateTime;
@@ -15,8 +15,8 @@ use liquid_scalar::ScalarOf;
 use liquid_value::render::ValueSource;
 use liquid_value::{Value, ValueCow};
 use std::alloc::{AllocError, Global};
-use std_dates::{moment_of, pattern_error};
-use std_values::errors::unexpected_arguments;
+use filter_dates::{moment_of, pattern_error};
+use filter_values::errors::unexpected_arguments;
 
 /// How a filter writes a date.
 #[derive(Debug, Clone, Copy, PartialEq, Eq, Drop)]

@@ -8,7 +8,7 @@ use jekyll_values::xml_escape;
 use liquid_error::Error;
 use liquid_value::Value;
 use std::alloc::Global;
-use std_filters::json_text::json;
+use liquid_filters::json_text::json;
 
 /// Returns the input as JSON, escaped for XML.
 pub(crate) fn inspect(alloc: Global, input: &Value) -> Result<Value, Error>

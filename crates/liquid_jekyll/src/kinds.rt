@@ -7,7 +7,7 @@ use crate::text_kinds::JekyllTextKind;
 use liquid_error::Error;
 use liquid_value::Value;
 use std::alloc::Global;
-use std_filters::{CallArguments, FilterKind, FilterRow};
+use liquid_filters::{CallArguments, FilterKind, FilterRow};
 
 /// A filter of Jekyll.
 #[derive(Clone, Copy, Drop)]

@@ -7,7 +7,7 @@ use jekyll_values::{array_to_sentence_string, pop, push, shift, unshift};
 use liquid_error::Error;
 use liquid_value::Value;
 use std::alloc::Global;
-use std_filters::{CallArguments, FilterKind, FilterRow};
+use liquid_filters::{CallArguments, FilterKind, FilterRow};
 
 /// A filter of Jekyll on a list.
 #[derive(Debug, Clone, Copy, PartialEq, Eq, Drop)]

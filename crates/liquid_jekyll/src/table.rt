@@ -10,7 +10,7 @@ use crate::text_kinds::JekyllTextKind;
 use liquid_dates::DateTime;
 use liquid_plugins::PluginRegistry;
 use std::alloc::{AllocError, Global};
-use std_filters::{Beside, FilterPlugin, StdKind, filters_beside};
+use liquid_filters::{Beside, FilterPlugin, StdKind, filters_beside};
 
 /// Returns the standard filters and Jekyll's, which replace those of the same name. The filters on dates read the texts `now`
 /// and `today` as the moment that is given. Without a moment they are not dates.

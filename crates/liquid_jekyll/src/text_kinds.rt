@@ -9,9 +9,9 @@ use jekyll_values::{
 use liquid_error::Error;
 use liquid_value::Value;
 use std::alloc::Global;
-use std_filters::json_text::json;
-use std_filters::{CallArguments, FilterKind, FilterRow};
-use std_texts::url_encode;
+use liquid_filters::json_text::json;
+use liquid_filters::{CallArguments, FilterKind, FilterRow};
+use filter_strings::url_encode;
 
 /// A filter of Jekyll on a text.
 #[derive(Debug, Clone, Copy, PartialEq, Eq, Drop)]

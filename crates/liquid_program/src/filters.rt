@@ -6,8 +6,8 @@ use liquid_core::Error;
 use liquid_core::model::Value;
 use liquid_core::parser::{ParameterReflection, PluginRegistry};
 use std::alloc::{AllocError, Global};
-use std_filters::{CallArguments, FilterKind, FilterPlugin, FilterRow, register_all};
-use std_texts::append;
+use liquid_filters::{CallArguments, FilterKind, FilterPlugin, FilterRow, register_all};
+use filter_strings::append;
 
 static TEXT: [ParameterReflection; 1] = [ParameterReflection {
     name: "text",

@@ -17,8 +17,8 @@ use liquid_std::{StdBlocks, StdTags};
 use liquid_tags::{Blocks, Tags};
 use std::alloc::{AllocError, Global};
 use std::rc::Rc;
-use std_filters::{FilterPlugin, StdKind, filters};
-use std_marks::Marks;
+use liquid_filters::{FilterPlugin, StdKind, filters};
+use liquid_cycle::Marks;
 
 /// The tag library with `append` and `fail`.
 pub(crate) type PlainLanguage = Language<PlainFilters, Tags, Blocks>;

@@ -9,13 +9,13 @@ use liquid_core::parser::{Bytes, ListOf, Meant};
 use liquid_core::{Discreet, Error, Frame, Object, Renderable, Runtime, Turn};
 use liquid_tags::for_block::rounds::RoundsShape;
 use std::alloc::Global;
-use std_conditions::branches::CaseShape;
-use std_conditions::condition::ConditionShape;
-use std_conditions::{Case, Condition, part_case, part_if, part_unless};
-use std_loops::loops::LoopShape;
-use std_loops::tables::TableShape;
-use std_loops::{Loop, Rounds, Table, loop_turn, picked_items, table_over, table_turn};
-use std_marks::{HoldsMarks, changed_turn};
+use liquid_conditions::branches::CaseShape;
+use liquid_conditions::condition::ConditionShape;
+use liquid_conditions::{Case, Condition, part_case, part_if, part_unless};
+use liquid_loops::loops::LoopShape;
+use liquid_loops::tables::TableShape;
+use liquid_loops::{Loop, Rounds, Table, loop_turn, picked_items, table_over, table_turn};
+use liquid_cycle::{HoldsMarks, changed_turn};
 
 /// The node of a block.
 #[derive(Drop)]

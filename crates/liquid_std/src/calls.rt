@@ -9,8 +9,8 @@ use crate::tags::StdTag;
 use liquid_core::{Error, Filter, TagTokenIter};
 use liquid_tags::{Inclusion, TagNode};
 use std::alloc::Global;
-use std_calls::ReadCall;
-use std_calls::read_call::read_call;
+use liquid_includes::ReadCall;
+use liquid_includes::read_call::read_call;
 
 /// Reads the node of an `include` or a `render`.
 pub(crate) fn parse_call<X: Filter>(

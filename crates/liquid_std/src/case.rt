@@ -2,7 +2,7 @@
 ghost use Rattle.liquid_error.specs.meaning.Told.{Gives};
 ghost use Rattle.liquid_parser.specs.meaning.Handed.{Tokens};
 ghost use Rattle.liquid_parser.specs.meaning.Plugins.{AreTokens};
-ghost use Rattle.std_conditions.specs.meaning.Branches.{case_of};
+ghost use Rattle.liquid_conditions.specs.meaning.Branches.{case_of};
 ghost use Rattle.liquid_std.specs.meaning.BlockPlugins.{case_given, plan_of, with_alternatives};
 
 use crate::block_plugins::StdPlan;
@@ -10,8 +10,8 @@ use crate::blocks::StdBlock;
 use liquid_core::{Error, TagTokenIter};
 use liquid_tags::asked::{TOKEN_EXPECTED, alone};
 use std::alloc::Global;
-use std_conditions::Case;
-use std_conditions::read_values::read_values;
+use liquid_conditions::Case;
+use liquid_conditions::read_values::read_values;
 
 /// The separators between two values of a `when`.
 static WHEN_SEPARATORS: [&str; 2] = [",", "or"];

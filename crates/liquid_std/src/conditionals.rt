@@ -3,7 +3,7 @@ ghost use Rattle.std.specs.Prelude.{map};
 ghost use Rattle.liquid_error.specs.meaning.Told.{Gives};
 ghost use Rattle.liquid_parser.specs.meaning.Handed.{Tokens};
 ghost use Rattle.liquid_parser.specs.meaning.Plugins.{AreTokens};
-ghost use Rattle.std_conditions.specs.meaning.Conditions.{condition_of};
+ghost use Rattle.liquid_conditions.specs.meaning.Conditions.{condition_of};
 ghost use Rattle.liquid_std.specs.declared.blocks.StdBlockShape.TheVariants.{If, Unless};
 ghost use Rattle.liquid_std.specs.meaning.BlockPlugins.{condition_planned, plan_of, with_condition};
 
@@ -11,8 +11,8 @@ use crate::block_plugins::StdPlan;
 use crate::blocks::StdBlock;
 use liquid_core::{Error, TagTokenIter};
 use std::alloc::Global;
-use std_conditions::Condition;
-use std_conditions::read_condition::read_condition;
+use liquid_conditions::Condition;
+use liquid_conditions::read_condition::read_condition;
 
 /// Reads the start tag of an `if`.
 pub(crate) fn begin_if(alloc: Global, tokens: TagTokenIter<'_>) -> Result<StdPlan, Error>

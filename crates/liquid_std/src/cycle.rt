@@ -3,7 +3,7 @@ ghost use Rattle.liquid_error.specs.meaning.Told.{Gives};
 ghost use Rattle.liquid_parser.specs.meaning.Cursors.{HandsOut, IsToken};
 ghost use Rattle.liquid_parser.specs.meaning.Handed.{Token, Tokens};
 ghost use Rattle.liquid_parser.specs.meaning.Plugins.{AreTokens};
-ghost use Rattle.std_marks.specs.meaning.Cycles.{cycle_of};
+ghost use Rattle.liquid_cycle.specs.meaning.Cycles.{cycle_of};
 ghost use Rattle.liquid_std.specs.meaning.CyclesGiven.{cycle_given, name_in, named_given, unnamed_given};
 ghost use Rattle.liquid_std.specs.meaning.TagPlugins.{cycle_node_given};
 ghost use Rattle.liquid_std.specs.meaning.Tags.{tag_of};
@@ -12,9 +12,9 @@ use crate::tags::StdTag;
 use liquid_core::parser::TagToken;
 use liquid_core::{Error, Filter, TagTokenIter};
 use std::alloc::Global;
-use std_conditions::read_values::read_values;
-use std_marks::groups::values_key;
-use std_marks::{Cycle, Group};
+use liquid_conditions::read_values::read_values;
+use liquid_cycle::groups::values_key;
+use liquid_cycle::{Cycle, Group};
 
 /// The separator between two values.
 static SEPARATORS: [&str; 1] = [","];

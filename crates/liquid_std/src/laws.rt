@@ -4,7 +4,7 @@
 ghost use Rattle.liquid_plugins.specs.meaning.Chain.{FilterMeaning};
 ghost use Rattle.liquid_std.specs.laws.Sandboxes.{StandardAgrees, StandardIsolated};
 
-use std_marks::HoldsMarks;
+use liquid_cycle::HoldsMarks;
 
 /// Under a sandboxed frame a template of the standard language has the run that it has over an outside without names.
 ///

@@ -3,8 +3,8 @@ ghost use Rattle.std.specs.Prelude.{◌≡◌, option_map, IfOk};
 ghost use Rattle.liquid_error.specs.meaning.Told.{Gives};
 ghost use Rattle.liquid_parser.specs.meaning.Handed.{Tokens};
 ghost use Rattle.liquid_parser.specs.meaning.Plugins.{AreTokens};
-ghost use Rattle.std_loops.specs.meaning.Picked.{picked_left};
-ghost use Rattle.std_loops.specs.meaning.Tables.{table_of};
+ghost use Rattle.liquid_loops.specs.meaning.Picked.{picked_left};
+ghost use Rattle.liquid_loops.specs.meaning.Tables.{table_of};
 ghost use Rattle.liquid_std.specs.meaning.BlockPlugins.{for_given, plan_of, tablerow_given};
 ghost use Rattle.liquid_std.specs.meaning.Blocks.{over_items, over_table, progress_of};
 
@@ -12,8 +12,8 @@ use crate::block_plugins::StdPlan;
 use crate::blocks::{StdBlock, StdProgress};
 use liquid_core::{Error, TagTokenIter};
 use std::alloc::{AllocError, Global};
-use std_loops::read_loop::read_loop;
-use std_loops::{LoopBlock, Picked, Table, rounds_over};
+use liquid_loops::read_loop::read_loop;
+use liquid_loops::{LoopBlock, Picked, Table, rounds_over};
 
 /// Reads the start tag of a `for`.
 pub(crate) fn begin_for(alloc: Global, tokens: TagTokenIter<'_>) -> Result<StdPlan, Error>

@@ -10,7 +10,7 @@ use liquid_core::parser::PluginRegistry;
 use liquid_core::partials::PartialSource;
 use liquid_core::{Error, Object, ParseFilter, Sink, render_page_in};
 use std::alloc::Global;
-use std_marks::Marks;
+use liquid_cycle::Marks;
 
 /// Renders a page and writes the result: this text in the standard language with these filters, over these
 /// globals, with the partials of this source.

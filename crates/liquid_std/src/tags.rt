@@ -11,11 +11,11 @@ use liquid_core::{Discreet, Error, Filter, Renderable, Runtime, Turn};
 use liquid_tags::TagNode;
 use liquid_tags::tags::TagShape;
 use std::alloc::Global;
-use std_calls::calls::PartialCallShape;
-use std_calls::rounds::CallRoundsShape;
-use std_calls::{CallRounds, PartialCall, call_rounds, call_turn};
-use std_marks::cycle::CycleShape;
-use std_marks::{Cycle, HoldsMarks, cycle_turn};
+use liquid_includes::calls::PartialCallShape;
+use liquid_includes::rounds::CallRoundsShape;
+use liquid_includes::{CallRounds, PartialCall, call_rounds, call_turn};
+use liquid_cycle::cycle::CycleShape;
+use liquid_cycle::{Cycle, HoldsMarks, cycle_turn};
 
 /// The node of a tag, over filters `X`.
 #[derive(Drop)]

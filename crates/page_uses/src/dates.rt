@@ -7,7 +7,7 @@ use liquid_grammar::{
 use liquid_scalar::Scalar;
 use liquid_value::{Object, Value};
 use std::alloc::{AllocError, Global};
-use std_dates::moment_of;
+use filter_dates::moment_of;
 
 /// Adds the text that an expression prints as a date, if it is not one: a literal, or a text of the data. So many bytes
 /// follow the expression.

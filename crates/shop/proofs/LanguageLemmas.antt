@@ -3,9 +3,9 @@ use Rattle.std.proofs.Common.{◌≡◌, ap, ◌∙◌}
 use Rattle.liquid_runtime.specs.meaning.Maps.{NameMap}
 use Rattle.liquid_tags.specs.declared.block_plugins.Blocks.{Blocks}
 use Rattle.liquid_tags.specs.declared.tag_plugins.Tags.{Tags}
-use Rattle.std_filters.specs.declared.beside.Beside.{Beside as FilterBeside}
-use Rattle.std_filters.specs.declared.kinds.StdKind.{StdKind}
-use Rattle.std_filters.specs.declared.plugin.FilterPlugin.{FilterPlugin}
+use Rattle.liquid_filters.specs.declared.beside.Beside.{Beside as FilterBeside}
+use Rattle.liquid_filters.specs.declared.kinds.StdKind.{StdKind}
+use Rattle.liquid_filters.specs.declared.plugin.FilterPlugin.{FilterPlugin}
 use Rattle.beside.specs.declared.one_of.Beside.{Beside}
 use Rattle.text_blocks.specs.declared.plugin.TextBlockPlugin.{TextBlockPlugin}
 use Rattle.shop.specs.declared.badge.Badge.{Badge}

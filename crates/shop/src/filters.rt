@@ -4,7 +4,7 @@ ghost use Rattle.shop.specs.meaning.Filters.{quoted};
 use liquid_core::Error;
 use liquid_core::model::{Value, ValueRender};
 use std::alloc::Global;
-use std_filters::{Beside, CallArguments, FilterKind, FilterPlugin, FilterRow, StdKind};
+use liquid_filters::{Beside, CallArguments, FilterKind, FilterPlugin, FilterRow, StdKind};
 
 /// The filter `quoted`.
 #[derive(Debug, Clone, Copy)]

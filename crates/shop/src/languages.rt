@@ -10,7 +10,7 @@ use beside::Beside;
 use liquid_core::parser::{Language, PluginRegistry};
 use liquid_tags::{Blocks, Tags};
 use std::alloc::{AllocError, Global};
-use std_filters::filters_beside;
+use liquid_filters::filters_beside;
 use text_blocks::TextBlockPlugin;
 
 /// The tags of the library, and `badge`.

@@ -1,11 +1,11 @@
 //! A register of a host's own that holds the marks of the standard tags.
 ghost use Rattle.std.specs.Prelude.{refl};
-ghost use Rattle.std_marks.specs.meaning.Marks.{marks_of, no_marks};
+ghost use Rattle.liquid_cycle.specs.meaning.Marks.{marks_of, no_marks};
 
 use liquid_core::Fresh;
 use std::alloc::{AllocError, Global};
-use std_marks::marks::MarksShape;
-use std_marks::{HoldsMarks, Marks};
+use liquid_cycle::marks::MarksShape;
+use liquid_cycle::{HoldsMarks, Marks};
 
 /// Marks, and the number of visits.
 #[derive(Drop)]

@@ -7,7 +7,7 @@ use liquid_core::Error;
 use liquid_core::model::{Value, ValueRender};
 use liquid_core::parser::ParameterReflection;
 use std::alloc::{AllocError, Global};
-use std_filters::{CallArguments, FilterRow};
+use liquid_filters::{CallArguments, FilterRow};
 use text_tags::TextTag;
 
 /// The tag `link`, which writes an address and a title.

@@ -7,7 +7,7 @@ use liquid_core::parser::{NoPlugin, PluginRegistry};
 use liquid_core::partials::InMemorySource;
 use liquid_core::{Error, TextSink, render_page_in};
 use std::alloc::Global;
-use std_beside::language_beside;
+use liquid_beside::language_beside;
 use text_blocks::TextBlockPlugin;
 use text_tags::TextTagPlugin;
 

@@ -8,10 +8,10 @@ use Rattle.liquid_value.specs.meaning.Tree.{Tree, scalar}
 use Rattle.liquid_runtime.specs.meaning.Erased.{erase}
 use Rattle.liquid_runtime.specs.meaning.View.{View}
 use Rattle.liquid_plugins.specs.meaning.Turns.{TurnShape, text_turn, end_turn}
-use Rattle.std_filters.specs.declared.call.CallShape.{CallShape}
-use Rattle.std_filters.specs.meaning.Calls.{call_answer, evaluate_arguments}
-use Rattle.std_filters.specs.meaning.Given.{Given}
-use Rattle.std_filters.proofs.ArgumentSteps.{call_answer_erased}
+use Rattle.liquid_filters.specs.declared.call.CallShape.{CallShape}
+use Rattle.liquid_filters.specs.meaning.Calls.{call_answer, evaluate_arguments}
+use Rattle.liquid_filters.specs.meaning.Given.{Given}
+use Rattle.liquid_filters.proofs.ArgumentSteps.{call_answer_erased}
 use Rattle.text_tags.specs.declared.kind.TagAnswer.{TagAnswer}
 use Rattle.text_tags.specs.meaning.Nodes.{tag_turn}
 use Rattle.text_tags.specs.meaning.Sense.{TextTagSense, answer_sense}

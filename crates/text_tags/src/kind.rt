@@ -1,14 +1,14 @@
 //! Kinds of text tags: how each describes itself, and the text that it writes.
 ghost use Rattle.std.specs.Prelude.{◌≡◌, string_bytes};
 ghost use Rattle.liquid_error.specs.meaning.Told.{Gives};
-ghost use Rattle.std_filters.specs.meaning.Given.{given};
-ghost use Rattle.std_filters.specs.meaning.Rows.{IsRow};
+ghost use Rattle.liquid_filters.specs.meaning.Given.{given};
+ghost use Rattle.liquid_filters.specs.meaning.Rows.{IsRow};
 ghost use Rattle.text_tags.specs.meaning.Sense.{TextTagSense, answer_sense, filter_sense};
 
 use liquid_error::Error;
 use liquid_value::Value;
 use std::alloc::Global;
-use std_filters::{CallArguments, FilterKind, FilterRow};
+use liquid_filters::{CallArguments, FilterKind, FilterRow};
 
 /// A kind of tag that writes a text in one turn.
 ///

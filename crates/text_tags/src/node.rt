@@ -1,7 +1,7 @@
 //! The nodes of text tags, and how they are rendered.
 ghost use Rattle.liquid_error.specs.meaning.Told.{Gives};
 ghost use Rattle.liquid_plugins.specs.meaning.TurnOf.{turn_of};
-ghost use Rattle.std_filters.specs.meaning.Calls.{call_of};
+ghost use Rattle.liquid_filters.specs.meaning.Calls.{call_of};
 ghost use Rattle.text_tags.specs.laws.Hiding.{text_tags_hide};
 ghost use Rattle.text_tags.specs.meaning.Nodes.{tag_turn, text_nodes};
 
@@ -12,8 +12,8 @@ use liquid_runtime::{Fresh, Runtime};
 use liquid_value::render::ValueRender;
 use liquid_value::{Value, ValueCow};
 use std::alloc::Global;
-use std_filters::FilterCall;
-use std_filters::call::CallShape;
+use liquid_filters::FilterCall;
+use liquid_filters::call::CallShape;
 
 /// A text tag of a template, with the expressions of its arguments.
 #[derive(Drop)]

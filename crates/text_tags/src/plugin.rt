@@ -7,7 +7,7 @@ use liquid_error::Error;
 use liquid_parser::{ParseTag, TagReflection, TagTokenIter};
 use liquid_plugins::{ParseFilter, PluginRegistry};
 use std::alloc::Global;
-use std_filters::FilterPlugin;
+use liquid_filters::FilterPlugin;
 use tag_arguments::read_arguments;
 
 /// A kind of text tag as a plug-in.

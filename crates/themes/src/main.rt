@@ -14,8 +14,8 @@ use std::env;
 use std::io::{self, Write};
 use std::process::ExitCode;
 use std::rc::Rc;
-use std_filters::{FilterPlugin, StdKind, filters};
-use std_marks::Marks;
+use liquid_filters::{FilterPlugin, StdKind, filters};
+use liquid_cycle::Marks;
 use theme::{Theme, partials_of, read_theme};
 
 /// The standard tags, blocks and filters.

@@ -7,8 +7,8 @@ use liquid_value::{Value, ValueCow};
 use rows::{Line, is_text};
 use serde_json::Value as Json;
 use std::alloc::Global;
-use std_filters::json_text::json;
-use std_filters::{CallArguments, FilterKind};
+use liquid_filters::json_text::json;
+use liquid_filters::{CallArguments, FilterKind};
 
 /// Returns `true` if the filter of a row returns what the row says: the filter's name, its input, its arguments, and the
 /// source of what it returns, or the text of its error.

@@ -7,7 +7,7 @@ use liquid_core::{Error, TextSink};
 use liquid_std::render_page;
 use serde_json::Value as Json;
 use std::alloc::Global;
-use std_filters::filters;
+use liquid_filters::filters;
 
 /// Pages, each with its name, its text and what it writes, up to a bar at a line's end.
 static PAGES: &str =

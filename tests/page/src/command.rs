@@ -14,9 +14,9 @@ use serde_json::Value as Json;
 use std::alloc::{AllocError, Global};
 use std::rc::Rc;
 use std::test::Fail;
-use std_dates::moment_of;
-use std_filters::{FilterPlugin, StdKind, filters};
-use std_marks::Marks;
+use filter_dates::moment_of;
+use liquid_filters::{FilterPlugin, StdKind, filters};
+use liquid_cycle::Marks;
 
 type Standard = Language<FilterPlugin<StdKind>, StdTags, StdBlocks>;
 

@@ -10,8 +10,8 @@ use rows::{Row, holds};
 use std::alloc::Global;
 use std::rc::Rc;
 use std::test::Fail;
-use std_filters::filters;
-use std_marks::Marks;
+use liquid_filters::filters;
+use liquid_cycle::Marks;
 
 /// Returns `true` if a row comes to what it says in a language over a runtime.
 fn is_rendered<F, T, B, R>(

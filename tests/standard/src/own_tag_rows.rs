@@ -7,8 +7,8 @@ use liquid_core::{Error, TextSink, render_page_in};
 use rows::{Line, holds, rows_hold};
 use std::alloc::Global;
 use std::test::Fail;
-use std_beside::language_beside;
-use std_marks::Marks;
+use liquid_beside::language_beside;
+use liquid_cycle::Marks;
 use test_calls::Link;
 use text_tags::TextTagPlugin;
 

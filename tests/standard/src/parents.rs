@@ -4,7 +4,7 @@ use liquid_core::model::{Object, Value, to_object};
 use liquid_core::runtime::{BuiltRuntime, Interrupt, Runtime, RuntimeBuilder};
 use rows::{Line, Row};
 use std::alloc::Global;
-use std_marks::Marks;
+use liquid_cycle::Marks;
 
 /// A parent over a store of partials.
 pub(crate) type Over<P> = BuiltRuntime<Marks, P>;

@@ -7,7 +7,7 @@ use liquid_std::language;
 use rows::{Line, holds};
 use std::alloc::{AllocError, Global};
 use std::test::Fail;
-use std_filters::filters;
+use liquid_filters::filters;
 
 /// The name of each filter, what it returns, its parameters by place and those by keyword, as FILTERS has them.
 const FILTERS: &str = r#"["abs", "The number without its sign.", "", ""]

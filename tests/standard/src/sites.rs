@@ -10,8 +10,8 @@ use rows::{Line, Row, holds};
 use std::alloc::Global;
 use std::rc::Rc;
 use std::test::Fail;
-use std_filters::filters;
-use std_marks::Marks;
+use liquid_filters::filters;
+use liquid_cycle::Marks;
 
 /// Renders a row over a parent, in isolation or in a sandbox.
 fn render<X, T, B, R>(

@@ -12,7 +12,7 @@ use rows::{Line, rows_hold};
 use std::alloc::Global;
 use std::rc::Rc;
 use std::test::Fail;
-use std_marks::Marks;
+use liquid_cycle::Marks;
 
 /// A text, how many bytes it may write, what it writes over `{"x": 7}` and the partial `p`, and then its error, and
 /// whether the limit stopped it.

@@ -7,10 +7,10 @@ use Rattle.liquid_scalar.specs.meaning.Scalar.{boolean}
 use Rattle.liquid_value.specs.meaning.Parts.{is_nil}
 use Rattle.liquid_value.specs.meaning.Render.{render}
 use Rattle.liquid_value.specs.meaning.Tree.{Tree, nil, state, scalar, array, object, Members, no_members, member}
-use Rattle.std_lists.specs.meaning.Choices.{having, items_in, where_property}
-use Rattle.std_lists.specs.meaning.Searches.{first_or_nil}
-use Rattle.std_values.specs.meaning.Errors.{unexpected_arguments}
-use Rattle.std_values.specs.meaning.Items.{flat}
+use Rattle.filter_lists.specs.meaning.Choices.{having, items_in, where_property}
+use Rattle.filter_lists.specs.meaning.Searches.{first_or_nil}
+use Rattle.filter_values.specs.meaning.Errors.{unexpected_arguments}
+use Rattle.filter_values.specs.meaning.Items.{flat}
 use Rattle.jekyll_lists.specs.meaning.ItemKeys.{keyed}
 use Rattle.jekyll_lists.specs.meaning.Own.{own}
 

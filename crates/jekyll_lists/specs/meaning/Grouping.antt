@@ -5,10 +5,10 @@ use Rattle.liquid_scalar.specs.meaning.Scalar.{integer}
 use Rattle.liquid_value.specs.meaning.Render.{render}
 use Rattle.liquid_value.specs.meaning.Strict.{same_value}
 use Rattle.liquid_value.specs.meaning.Tree.{Tree, scalar, array, object, no_members, member}
-use Rattle.std_lists.specs.meaning.Choices.{distinct, items_in, keys_of}
-use Rattle.std_lists.specs.meaning.Lists.{list_of}
-use Rattle.std_values.specs.meaning.Errors.{array_expected, unexpected_arguments}
-use Rattle.std_values.specs.meaning.Items.{own_items}
+use Rattle.filter_lists.specs.meaning.Choices.{distinct, items_in, keys_of}
+use Rattle.filter_lists.specs.meaning.Lists.{list_of}
+use Rattle.filter_values.specs.meaning.Errors.{array_expected, unexpected_arguments}
+use Rattle.filter_values.specs.meaning.Items.{own_items}
 use Rattle.jekyll_lists.specs.meaning.ItemKeys.{keyed}
 use Rattle.jekyll_lists.specs.meaning.Ordering.{with_texts}
 

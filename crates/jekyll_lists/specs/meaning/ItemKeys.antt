@@ -5,8 +5,8 @@ use Rattle.std.specs.Str.{byte}
 use Rattle.liquid_error.specs.meaning.Refusal.{Refusal, ok_then}
 use Rattle.liquid_scalar.specs.meaning.Scalar.{Scal, integer, boolean, text, whole_number_of_text}
 use Rattle.liquid_value.specs.meaning.Tree.{Tree, nil, scalar}
-use Rattle.std_strings.specs.meaning.Split.{split}
-use Rattle.std_values.specs.meaning.Parts.{property}
+use Rattle.liquid_strings.specs.meaning.Split.{split}
+use Rattle.filter_values.specs.meaning.Parts.{property}
 use Rattle.jekyll_texts.specs.meaning.Spaces.{stripped}
 
 -- nil and truth values lead to `false`

@@ -7,11 +7,11 @@ use Rattle.liquid_scalar.specs.meaning.Scalar.{text}
 use Rattle.liquid_value.specs.meaning.Parts.{is_nil}
 use Rattle.liquid_value.specs.meaning.Render.{render}
 use Rattle.liquid_value.specs.meaning.Tree.{Tree, nil, scalar, array, object, Members, no_members, member}
-use Rattle.std_lists.specs.meaning.Choices.{items_in, keys_of}
-use Rattle.std_lists.specs.meaning.Lists.{list_of}
-use Rattle.std_order.specs.meaning.Order as order
-use Rattle.std_values.specs.meaning.Errors.{array_expected, found_error, unexpected_arguments}
-use Rattle.std_values.specs.meaning.Items.{own_items}
+use Rattle.filter_lists.specs.meaning.Choices.{items_in, keys_of}
+use Rattle.filter_lists.specs.meaning.Lists.{list_of}
+use Rattle.filter_sorting.specs.meaning.Order as order
+use Rattle.filter_values.specs.meaning.Errors.{array_expected, found_error, unexpected_arguments}
+use Rattle.filter_values.specs.meaning.Items.{own_items}
 use Rattle.jekyll_lists.specs.declared.ordering.NilEnd.{NilEnd}
 use Rattle.jekyll_lists.specs.declared.ordering.NilEnd.TheVariants.{First, Last}
 use Rattle.jekyll_lists.specs.meaning.ItemKeys.{keyed}

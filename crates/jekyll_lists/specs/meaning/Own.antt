@@ -1,7 +1,7 @@
 -- The items that an array or an object has itself.
 use Rattle.std.specs.Prelude.{List, [], ◌∷◌, Option, Some, None}
 use Rattle.liquid_value.specs.meaning.Tree.{Tree, array, object, Members, no_members, member}
-use Rattle.std_values.specs.meaning.Items.{own_items}
+use Rattle.filter_values.specs.meaning.Items.{own_items}
 
 -- the values of an object, in the order of its names
 abbrev pub member_values : Members → List Tree

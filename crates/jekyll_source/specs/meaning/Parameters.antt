@@ -3,7 +3,7 @@ use Rattle.std.specs.Prelude.{ℕ, zero, suc, ◌+◌, Bool, true, false, not, �
 use Rattle.std.specs.Prelude.{take, unwrap_or, if◌then◌else◌}
 use Rattle.std.specs.Option.{option_map_or}
 use Rattle.std.specs.Str.{byte}
-use Rattle.std_strings.specs.meaning.Replace.{replaced}
+use Rattle.liquid_strings.specs.meaning.Replace.{replaced}
 use Rattle.jekyll_source.specs.meaning.Literals.{between, literal}
 use Rattle.jekyll_source.specs.meaning.Splits.{Parts, is_quote, split_run}
 

@@ -1,7 +1,7 @@
 -- Slugs: texts as parts of a URL that people read.
 use Rattle.std.specs.Prelude.{ℕ, List, chars, encode_utf8_all}
 use Rattle.std.specs.Str.{byte}
-use Rattle.std_strings.specs.meaning.Cases.{lowercased}
+use Rattle.liquid_strings.specs.meaning.Cases.{lowercased}
 use Rattle.jekyll_texts.specs.declared.character_sets.CharacterSet.{CharacterSet}
 use Rattle.jekyll_texts.specs.declared.character_sets.CharacterSet.TheVariants.{BetweenAscii, BetweenPretty, BetweenWords, WhiteSpace}
 use Rattle.jekyll_texts.specs.declared.slugs.SlugMode.{SlugMode}

@@ -2,7 +2,7 @@
 use Rattle.std.specs.Prelude.{ℕ, ◌-◌, Bool, false, ◌||◌, List, [], ◌∷◌, ◌++◌, Option, None, Some, codes, flat_map, fold, length, map, take, if◌then◌else◌}
 use Rattle.std.specs.List.{join_by, slice_get}
 use Rattle.std.specs.Str.{bytes_eq}
-use Rattle.std_strings.specs.meaning.Pieces.{pieces}
+use Rattle.liquid_strings.specs.meaning.Pieces.{pieces}
 use Rattle.jekyll_texts.specs.meaning.Spaces.{stripped}
 use Rattle.jekyll_urls.specs.declared.parts.UrlPart.TheVariants.{Segment}
 use Rattle.jekyll_urls.specs.meaning.Parts.{cleaned}

@@ -4,11 +4,11 @@ use Rattle.liquid_error.specs.meaning.Refusal.{Refusal, ok_then}
 use Rattle.liquid_scalar.specs.meaning.Scalar.{text}
 use Rattle.liquid_value.specs.meaning.Render.{render}
 use Rattle.liquid_value.specs.meaning.Tree.{Tree, scalar, array}
-use Rattle.std_lists.specs.meaning.Lists.{list_of}
-use Rattle.std_strings.specs.meaning.Slices.{count_in}
-use Rattle.std_values.specs.meaning.Errors.{unexpected_arguments}
-use Rattle.std_values.specs.meaning.Items.{flat, own_items}
-use Rattle.std_values.specs.meaning.Numbers.{whole}
+use Rattle.filter_lists.specs.meaning.Lists.{list_of}
+use Rattle.liquid_strings.specs.meaning.Slices.{count_in}
+use Rattle.filter_values.specs.meaning.Errors.{unexpected_arguments}
+use Rattle.filter_values.specs.meaning.Items.{flat, own_items}
+use Rattle.filter_values.specs.meaning.Numbers.{whole}
 use Rattle.jekyll_values.specs.declared.lists.End.{End}
 use Rattle.jekyll_values.specs.declared.lists.End.TheVariants.{First, Last}
 

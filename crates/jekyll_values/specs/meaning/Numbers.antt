@@ -3,8 +3,8 @@ use Rattle.std.specs.Prelude.{ℕ, ℤ, pos, ◌==◌, List, Option, Some, Resul
 use Rattle.liquid_error.specs.meaning.Refusal.{Refusal}
 use Rattle.liquid_scalar.specs.meaning.Scalar.{Scal, integer, boolean, render_scalar, whole_number_of_text}
 use Rattle.liquid_value.specs.meaning.Tree.{Tree, nil, state, scalar, array, object}
-use Rattle.std_values.specs.meaning.Errors.{whole_number_expected}
-use Rattle.std_values.specs.meaning.Numbers.{limited}
+use Rattle.filter_values.specs.meaning.Errors.{whole_number_expected}
+use Rattle.filter_values.specs.meaning.Numbers.{limited}
 use Rattle.jekyll_texts.specs.meaning.Numerals.{numeral}
 
 -- the number with which a text begins after white space; 0 without one, and nothing if it does not fit

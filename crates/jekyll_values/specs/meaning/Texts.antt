@@ -5,9 +5,9 @@ use Rattle.liquid_error.specs.meaning.Refusal.{Refusal}
 use Rattle.liquid_scalar.specs.meaning.Scalar.{integer}
 use Rattle.liquid_value.specs.meaning.Render.{render}
 use Rattle.liquid_value.specs.meaning.Tree.{Tree, nil, scalar}
-use Rattle.std_strings.specs.meaning.Cases.{lowercased}
-use Rattle.std_texts.specs.meaning.Written.{written}
-use Rattle.std_values.specs.meaning.Errors.{unexpected_arguments}
+use Rattle.liquid_strings.specs.meaning.Cases.{lowercased}
+use Rattle.filter_strings.specs.meaning.Written.{written}
+use Rattle.filter_values.specs.meaning.Errors.{unexpected_arguments}
 use Rattle.jekyll_texts.specs.declared.slugs.SlugMode.{SlugMode}
 use Rattle.jekyll_texts.specs.declared.slugs.SlugMode.TheVariants.{Ascii, Default, Pretty, Raw}
 use Rattle.jekyll_texts.specs.declared.words.WordMode.{WordMode}

@@ -12,19 +12,19 @@ use Rattle.liquid_tags.specs.declared.blocks.BlockShape.{BlockShape}
 use Rattle.liquid_tags.specs.declared.block_plugins.PlanShape.{PlanShape}
 use Rattle.liquid_tags.specs.meaning.Languages.{tags_and_blocks}
 use Rattle.liquid_tags.specs.meaning.Library.{library}
-use Rattle.std_marks.specs.meaning.Held.{marks_alone}
-use Rattle.std_marks.specs.meaning.Marks.{no_marks}
+use Rattle.liquid_cycle.specs.meaning.Held.{marks_alone}
+use Rattle.liquid_cycle.specs.meaning.Marks.{no_marks}
 use Rattle.liquid_std.specs.declared.tags.StdTagShape.{StdTagShape}
 use Rattle.liquid_std.specs.declared.blocks.StdBlockShape.{StdBlockShape}
 use Rattle.liquid_std.specs.declared.block_plugins.StdPlanShape.{StdPlanShape}
 use Rattle.liquid_std.specs.meaning.Languages.{tags_and_blocks as standard_tags_and_blocks}
 use Rattle.liquid_std.specs.meaning.Standard.{standard}
-use Rattle.std_filters.specs.declared.call.CallShape.{CallShape}
-use Rattle.std_filters.specs.declared.kinds.StdKind.{StdKind}
-use Rattle.std_filters.specs.declared.plugin.FilterPlugin.{FilterPlugin}
-use Rattle.std_filters.specs.meaning.Calls.{call_made, calls}
-use Rattle.std_filters.specs.meaning.Registered.{standard_filters}
-use Rattle.std_filters.specs.meaning.Standard.{std_sense}
+use Rattle.liquid_filters.specs.declared.call.CallShape.{CallShape}
+use Rattle.liquid_filters.specs.declared.kinds.StdKind.{StdKind}
+use Rattle.liquid_filters.specs.declared.plugin.FilterPlugin.{FilterPlugin}
+use Rattle.liquid_filters.specs.meaning.Calls.{call_made, calls}
+use Rattle.liquid_filters.specs.meaning.Registered.{standard_filters}
+use Rattle.liquid_filters.specs.meaning.Standard.{std_sense}
 use Rattle.liquid_pages.specs.declared.options.PageOptions.{PageOptions}
 use Rattle.liquid_pages.specs.meaning.Shown.{ComesTo, NameAndText, Page}
 

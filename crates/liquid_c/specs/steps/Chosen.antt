@@ -10,8 +10,8 @@ use Rattle.liquid_tags.specs.meaning.Languages.{meaning_of}
 use Rattle.liquid_std.specs.declared.block_plugins.StdBlocks.{StdBlocks}
 use Rattle.liquid_std.specs.declared.tag_plugins.StdTags.{StdTags}
 use Rattle.liquid_std.specs.meaning.Languages.{meaning_of as standard_meaning}
-use Rattle.std_filters.specs.declared.kinds.StdKind.{StdKind}
-use Rattle.std_filters.specs.declared.plugin.FilterPlugin.{FilterPlugin}
+use Rattle.liquid_filters.specs.declared.kinds.StdKind.{StdKind}
+use Rattle.liquid_filters.specs.declared.plugin.FilterPlugin.{FilterPlugin}
 use Rattle.liquid_c.specs.declared.moments.MomentFault.{MomentFault}
 use Rattle.liquid_c.specs.declared.moments.MomentFault.TheVariants.{NoMoment, NoMemory}
 use Rattle.liquid_c.specs.declared.page.Outcome.{Outcome}

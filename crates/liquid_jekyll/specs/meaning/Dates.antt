@@ -8,10 +8,10 @@ use Rattle.liquid_error.specs.meaning.Refusal.{Refusal}
 use Rattle.liquid_scalar.specs.meaning.Scalar.{text}
 use Rattle.liquid_value.specs.meaning.Render.{render}
 use Rattle.liquid_value.specs.meaning.Tree.{Tree, nil, scalar}
-use Rattle.std_dates.specs.meaning.Moments.{IsMomentOf}
-use Rattle.std_dates.proofs.MomentLemmas.{moment_of}
-use Rattle.std_filters.specs.meaning.Dates.{formatted, printed}
-use Rattle.std_values.specs.meaning.Errors.{found_error, unexpected_arguments}
+use Rattle.filter_dates.specs.meaning.Moments.{IsMomentOf}
+use Rattle.filter_dates.proofs.MomentLemmas.{moment_of}
+use Rattle.liquid_filters.specs.meaning.Dates.{formatted, printed}
+use Rattle.filter_values.specs.meaning.Errors.{found_error, unexpected_arguments}
 use Rattle.liquid_jekyll.specs.declared.dates.DateForm.{DateForm}
 use Rattle.liquid_jekyll.specs.declared.dates.DateForm.TheVariants.{Short, Long, Xmlschema, Rfc822}
 use Rattle.liquid_jekyll.specs.declared.dates.DayStyle.{DayStyle}

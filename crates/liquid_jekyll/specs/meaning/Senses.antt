@@ -1,9 +1,9 @@
 -- What each of Jekyll's filters means.
 use Rattle.std.specs.Prelude.{ℕ, List, Bool, codes, Ok}
-use Rattle.std_filters.specs.meaning.Json.{as_json}
-use Rattle.std_filters.specs.meaning.Sense.{FilterSense}
-use Rattle.std_filters.specs.meaning.Standard.{alone, at_most_two, none, one, one_or_none, one_or_two, placed, two}
-use Rattle.std_texts.specs.meaning.Encoding.{url_encoded}
+use Rattle.liquid_filters.specs.meaning.Json.{as_json}
+use Rattle.liquid_filters.specs.meaning.Sense.{FilterSense}
+use Rattle.liquid_filters.specs.meaning.Standard.{alone, at_most_two, none, one, one_or_none, one_or_two, placed, two}
+use Rattle.filter_strings.specs.meaning.Encoding.{url_encoded}
 use Rattle.jekyll_lists.specs.meaning.Choosing as choosing
 use Rattle.jekyll_lists.specs.meaning.Grouping as grouping
 use Rattle.jekyll_lists.specs.meaning.Ordering as ordering

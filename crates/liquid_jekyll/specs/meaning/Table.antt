@@ -2,10 +2,10 @@
 use Rattle.std.specs.Prelude.{List, [], ◌∷◌, Option}
 use Rattle.liquid_dates.specs.declared.date_time.DateTime.{DateTime}
 use Rattle.liquid_runtime.specs.meaning.Maps.{NameMap}
-use Rattle.std_filters.specs.declared.beside.Beside.{Beside}
-use Rattle.std_filters.specs.declared.kinds.StdKind.{StdKind}
-use Rattle.std_filters.specs.declared.plugin.FilterPlugin.{FilterPlugin}
-use Rattle.std_filters.specs.meaning.Registered.{filters_beside}
+use Rattle.liquid_filters.specs.declared.beside.Beside.{Beside}
+use Rattle.liquid_filters.specs.declared.kinds.StdKind.{StdKind}
+use Rattle.liquid_filters.specs.declared.plugin.FilterPlugin.{FilterPlugin}
+use Rattle.liquid_filters.specs.meaning.Registered.{filters_beside}
 use Rattle.liquid_jekyll.specs.declared.dates.DateForm.{DateForm}
 use Rattle.liquid_jekyll.specs.declared.dates.DateForm.TheVariants.{Short, Long, Xmlschema, Rfc822}
 use Rattle.liquid_jekyll.specs.declared.kinds.JekyllKind.{JekyllKind}

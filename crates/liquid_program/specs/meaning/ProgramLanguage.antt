@@ -15,9 +15,9 @@ use Rattle.liquid_tags.specs.declared.blocks.ProgressShape.{ProgressShape}
 use Rattle.liquid_tags.specs.declared.block_plugins.PlanShape.{PlanShape}
 use Rattle.liquid_tags.specs.meaning.Languages.{tags_and_blocks}
 use Rattle.liquid_tags.specs.meaning.Library.{library}
-use Rattle.std_marks.specs.declared.marks.MarksShape.{MarksShape}
-use Rattle.std_marks.specs.meaning.Held.{marks_alone}
-use Rattle.std_marks.specs.meaning.Marks.{no_marks}
+use Rattle.liquid_cycle.specs.declared.marks.MarksShape.{MarksShape}
+use Rattle.liquid_cycle.specs.meaning.Held.{marks_alone}
+use Rattle.liquid_cycle.specs.meaning.Marks.{no_marks}
 use Rattle.liquid_std.specs.declared.tags.StdTagProgressShape.{StdTagProgressShape}
 use Rattle.liquid_std.specs.declared.tags.StdTagShape.{StdTagShape}
 use Rattle.liquid_std.specs.declared.blocks.StdBlockShape.{StdBlockShape}
@@ -25,14 +25,14 @@ use Rattle.liquid_std.specs.declared.blocks.StdProgressShape.{StdProgressShape}
 use Rattle.liquid_std.specs.declared.block_plugins.StdPlanShape.{StdPlanShape}
 use Rattle.liquid_std.specs.meaning.Languages.{tags_and_blocks as standard_tags_and_blocks}
 use Rattle.liquid_std.specs.meaning.Standard.{standard}
-use Rattle.std_filters.specs.declared.call.CallShape.{CallShape}
-use Rattle.std_filters.specs.declared.kinds.StdKind.{StdKind}
-use Rattle.std_filters.specs.declared.plugin.FilterPlugin.{FilterPlugin}
-use Rattle.std_filters.specs.meaning.Calls.{call_made, calls}
-use Rattle.std_filters.specs.meaning.Registered.{registered, standard_filters}
-use Rattle.std_filters.specs.meaning.Sense.{FilterSense}
-use Rattle.std_filters.specs.meaning.Standard.{std_sense}
-use Rattle.std_texts.specs.meaning.Joints.{appended}
+use Rattle.liquid_filters.specs.declared.call.CallShape.{CallShape}
+use Rattle.liquid_filters.specs.declared.kinds.StdKind.{StdKind}
+use Rattle.liquid_filters.specs.declared.plugin.FilterPlugin.{FilterPlugin}
+use Rattle.liquid_filters.specs.meaning.Calls.{call_made, calls}
+use Rattle.liquid_filters.specs.meaning.Registered.{registered, standard_filters}
+use Rattle.liquid_filters.specs.meaning.Sense.{FilterSense}
+use Rattle.liquid_filters.specs.meaning.Standard.{std_sense}
+use Rattle.filter_strings.specs.meaning.Joints.{appended}
 use Rattle.liquid_program.specs.declared.filters.PlainKind.{PlainKind}
 use Rattle.liquid_program.specs.declared.filters.PlainKind.TheVariants.{Append, Fail}
 

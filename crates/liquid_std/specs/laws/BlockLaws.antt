@@ -10,10 +10,10 @@ use Rattle.liquid_plugins.specs.meaning.Discreet.{Discreet, hiding, overlaid, Hi
 use Rattle.liquid_plugins.specs.meaning.Turning.{answers}
 use Rattle.liquid_plugins.specs.meaning.Turns.{capture_turn, text_turn, end_turn}
 use Rattle.liquid_plugins.proofs.Hiding.{answers_hide}
-use Rattle.std_conditions.specs.laws.Hidden.{part_case_hidden, part_if_hidden, part_unless_hidden}
-use Rattle.std_loops.specs.laws.Hidden.{loop_hides, picked_hidden, table_hidden, table_hides}
-use Rattle.std_marks.specs.laws.Hidden.{changes_hide}
-use Rattle.std_marks.specs.meaning.Held.{MarksIn}
+use Rattle.liquid_conditions.specs.laws.Hidden.{part_case_hidden, part_if_hidden, part_unless_hidden}
+use Rattle.liquid_loops.specs.laws.Hidden.{loop_hides, picked_hidden, table_hidden, table_hides}
+use Rattle.liquid_cycle.specs.laws.Hidden.{changes_hide}
+use Rattle.liquid_cycle.specs.meaning.Held.{MarksIn}
 use Rattle.liquid_std.specs.declared.blocks.StdBlockShape.{StdBlockShape}
 use Rattle.liquid_std.specs.declared.blocks.StdBlockShape.TheVariants as shape
 use Rattle.liquid_std.specs.declared.blocks.StdProgressShape.{StdProgressShape}

@@ -4,12 +4,12 @@ use Rattle.liquid_error.specs.meaning.Refusal.{Refusal, located, ok_then}
 use Rattle.liquid_parser.specs.meaning.Handed.{Tokens, expect_identifier, expect_value}
 use Rattle.liquid_parser.specs.meaning.Lang.{Block, BlockMeaning, BlockNames, Body, parts, escaped}
 use Rattle.liquid_tags.specs.meaning.Asked.{alone, next_as}
-use Rattle.std_conditions.specs.declared.branches.CaseShape.{CaseShape}
-use Rattle.std_conditions.specs.declared.condition.ConditionShape.{ConditionShape}
-use Rattle.std_conditions.specs.meaning.ConditionsGiven.{condition_given}
-use Rattle.std_conditions.specs.meaning.Values.{values_given}
-use Rattle.std_loops.specs.declared.options.LoopBlock.TheVariants as loop
-use Rattle.std_loops.specs.meaning.OptionsGiven.{loop_given}
+use Rattle.liquid_conditions.specs.declared.branches.CaseShape.{CaseShape}
+use Rattle.liquid_conditions.specs.declared.condition.ConditionShape.{ConditionShape}
+use Rattle.liquid_conditions.specs.meaning.ConditionsGiven.{condition_given}
+use Rattle.liquid_conditions.specs.meaning.Values.{values_given}
+use Rattle.liquid_loops.specs.declared.options.LoopBlock.TheVariants as loop
+use Rattle.liquid_loops.specs.meaning.OptionsGiven.{loop_given}
 use Rattle.liquid_std.specs.declared.blocks.StdBlockShape.{StdBlockShape}
 use Rattle.liquid_std.specs.declared.blocks.StdBlockShape.TheVariants as shape
 use Rattle.liquid_std.specs.declared.block_plugins.StdBlocks.{StdBlocks}

@@ -8,13 +8,13 @@ use Rattle.liquid_plugins.specs.meaning.Turning.{answers}
 use Rattle.liquid_plugins.specs.meaning.Turns.{TurnShape, text_turn, body_turn, end_turn, Answered, NodeMeaning}
 use Rattle.liquid_tags.specs.declared.for_block.rounds.RoundsShape.{RoundsShape}
 use Rattle.liquid_tags.specs.meaning.Loops.{loop_takes}
-use Rattle.std_conditions.specs.meaning.Branches.{case_of, part_case, part_if, part_unless}
-use Rattle.std_conditions.specs.meaning.Conditions.{condition_of}
-use Rattle.std_loops.specs.declared.tables.TableShape.{TableShape}
-use Rattle.std_loops.specs.meaning.Loops.{loop_of, picked_items, rounds_of, rounds_over}
-use Rattle.std_loops.specs.meaning.Tables.{table_of, table_over, table_takes}
-use Rattle.std_marks.specs.meaning.Changes.{changes}
-use Rattle.std_marks.specs.meaning.Held.{MarksIn}
+use Rattle.liquid_conditions.specs.meaning.Branches.{case_of, part_case, part_if, part_unless}
+use Rattle.liquid_conditions.specs.meaning.Conditions.{condition_of}
+use Rattle.liquid_loops.specs.declared.tables.TableShape.{TableShape}
+use Rattle.liquid_loops.specs.meaning.Loops.{loop_of, picked_items, rounds_of, rounds_over}
+use Rattle.liquid_loops.specs.meaning.Tables.{table_of, table_over, table_takes}
+use Rattle.liquid_cycle.specs.meaning.Changes.{changes}
+use Rattle.liquid_cycle.specs.meaning.Held.{MarksIn}
 use Rattle.liquid_std.specs.meaning.Captures.{captures, text_of}
 use Rattle.liquid_std.specs.declared.blocks.StdBlock.{StdBlock}
 use Rattle.liquid_std.specs.declared.blocks.StdBlock.TheVariants as block

@@ -17,11 +17,11 @@ use Rattle.liquid_std.specs.declared.tags.StdTagProgress.{StdTagProgress}
 use Rattle.liquid_std.specs.declared.tags.StdTagProgress.TheVariants as progress
 use Rattle.liquid_std.specs.declared.tags.StdTagProgressShape.{StdTagProgressShape}
 use Rattle.liquid_std.specs.declared.tags.StdTagProgressShape.TheVariants.{Turns, Rounds}
-use Rattle.std_calls.specs.declared.rounds.CallRoundsShape.{CallRoundsShape}
-use Rattle.std_calls.specs.meaning.Calls.{call_of}
-use Rattle.std_calls.specs.meaning.Rounds.{call_rounds, call_takes, rounds_of}
-use Rattle.std_marks.specs.meaning.Cycles.{cycle_of, cycles}
-use Rattle.std_marks.specs.meaning.Held.{MarksIn}
+use Rattle.liquid_includes.specs.declared.rounds.CallRoundsShape.{CallRoundsShape}
+use Rattle.liquid_includes.specs.meaning.Calls.{call_of}
+use Rattle.liquid_includes.specs.meaning.Rounds.{call_rounds, call_takes, rounds_of}
+use Rattle.liquid_cycle.specs.meaning.Cycles.{cycle_of, cycles}
+use Rattle.liquid_cycle.specs.meaning.Held.{MarksIn}
 use Rattle.liquid_std.specs.meaning.Decrement.{decrements}
 use Rattle.liquid_std.specs.meaning.Isolated.{library_turn}
 

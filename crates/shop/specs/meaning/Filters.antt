@@ -4,7 +4,7 @@ use Rattle.liquid_scalar.specs.meaning.Scalar.{text}
 use Rattle.liquid_value.specs.meaning.Render.{render}
 use Rattle.liquid_value.specs.meaning.Tree.{scalar}
 use Rattle.shop.specs.declared.filters.Quoted.{Quoted}
-use Rattle.std_filters.specs.meaning.Sense.{FilterSense}
+use Rattle.liquid_filters.specs.meaning.Sense.{FilterSense}
 
 -- the text in quotes
 abbrev pub quoted : Quoted → FilterSense

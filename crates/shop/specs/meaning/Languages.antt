@@ -19,12 +19,12 @@ use Rattle.shop.specs.meaning.Filters.{quoted}
 use Rattle.shop.specs.meaning.Shapes.{ShopFilter, ShopTag, ShopPlan, ShopBlock}
 use Rattle.shop.specs.meaning.Stocks.{stock_block}
 use Rattle.shop.specs.meaning.Twices.{twice}
-use Rattle.std_filters.specs.declared.beside.Beside.{Beside}
-use Rattle.std_filters.specs.declared.kinds.StdKind.{StdKind}
-use Rattle.std_filters.specs.declared.plugin.FilterPlugin.{FilterPlugin}
-use Rattle.std_filters.specs.meaning.Calls.{call_made}
-use Rattle.std_filters.specs.meaning.Registered.{filters_beside, sense_beside}
-use Rattle.std_filters.specs.meaning.Standard.{std_sense}
+use Rattle.liquid_filters.specs.declared.beside.Beside.{Beside}
+use Rattle.liquid_filters.specs.declared.kinds.StdKind.{StdKind}
+use Rattle.liquid_filters.specs.declared.plugin.FilterPlugin.{FilterPlugin}
+use Rattle.liquid_filters.specs.meaning.Calls.{call_made}
+use Rattle.liquid_filters.specs.meaning.Registered.{filters_beside, sense_beside}
+use Rattle.liquid_filters.specs.meaning.Standard.{std_sense}
 use Rattle.beside.specs.declared.one_of.Beside as one_of
 use Rattle.beside.specs.declared.one_of.Beside.TheVariants.{Library, Own}
 use Rattle.beside.specs.meaning.Plugins.{block_beside, tag_beside}

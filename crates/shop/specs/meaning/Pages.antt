@@ -29,9 +29,9 @@ use Rattle.liquid_partials.specs.meaning.Rendered.{Rendered, RenderedBy}
 use Rattle.liquid_partials.specs.meaning.Sources.{Texts}
 use Rattle.liquid_tags.specs.meaning.Blocks.{block_nodes}
 use Rattle.liquid_tags.specs.meaning.Tags.{tag_nodes}
-use Rattle.std_filters.specs.meaning.Calls.{calls}
-use Rattle.std_filters.specs.meaning.Registered.{sense_beside}
-use Rattle.std_filters.specs.meaning.Standard.{std_sense}
+use Rattle.liquid_filters.specs.meaning.Calls.{calls}
+use Rattle.liquid_filters.specs.meaning.Registered.{sense_beside}
+use Rattle.liquid_filters.specs.meaning.Standard.{std_sense}
 use Rattle.text_blocks.specs.meaning.Nodes.{text_nodes}
 use Rattle.beside.specs.meaning.Nodes.{nodes_beside}
 use Rattle.shop.specs.declared.pages.TheConstants.{GOODS, ITEM, PAGE, REFUSED}

@@ -5,9 +5,9 @@ use Rattle.liquid_tags.specs.declared.block_plugins.PlanShape.{PlanShape}
 use Rattle.liquid_tags.specs.declared.blocks.BlockShape.{BlockShape}
 use Rattle.liquid_tags.specs.declared.blocks.ProgressShape.{ProgressShape}
 use Rattle.liquid_tags.specs.declared.tags.TagShape.{TagShape}
-use Rattle.std_filters.specs.declared.beside.Beside.{Beside as FilterBeside}
-use Rattle.std_filters.specs.declared.call.CallShape.{CallShape}
-use Rattle.std_filters.specs.declared.kinds.StdKind.{StdKind}
+use Rattle.liquid_filters.specs.declared.beside.Beside.{Beside as FilterBeside}
+use Rattle.liquid_filters.specs.declared.call.CallShape.{CallShape}
+use Rattle.liquid_filters.specs.declared.kinds.StdKind.{StdKind}
 use Rattle.beside.specs.declared.one_of.Beside.{Beside}
 use Rattle.shop.specs.declared.filters.Quoted.{Quoted}
 use Rattle.shop.specs.declared.twice.Twice.{Twice}

@@ -3,8 +3,8 @@ use Rattle.std.specs.Prelude.{ℕ, List, [], ◌∷◌, ◌++◌, codes, true, f
 use Rattle.liquid_error.specs.meaning.Refusal.{Refusal, plain}
 use Rattle.liquid_value.specs.meaning.Render.{render}
 use Rattle.liquid_value.specs.meaning.Tree.{Tree}
-use Rattle.std_filters.specs.meaning.Calls.{keyword_of}
-use Rattle.std_filters.specs.meaning.Given.{Given}
+use Rattle.liquid_filters.specs.meaning.Calls.{keyword_of}
+use Rattle.liquid_filters.specs.meaning.Given.{Given}
 use Rattle.text_tags.specs.meaning.Sense.{TextTagSense}
 
 -- the text of a value, or an empty text without one

@@ -8,8 +8,8 @@ use Rattle.liquid_plugins.specs.meaning.Discreet.{Discreet, hiding}
 use Rattle.liquid_plugins.specs.meaning.Turning.{answers}
 use Rattle.liquid_plugins.specs.meaning.Turns.{text_turn}
 use Rattle.liquid_plugins.proofs.Hiding.{answers_hide}
-use Rattle.std_filters.specs.declared.call.CallShape.{CallShape}
-use Rattle.std_filters.proofs.ArgumentSteps.{evaluate_arguments_erased}
+use Rattle.liquid_filters.specs.declared.call.CallShape.{CallShape}
+use Rattle.liquid_filters.proofs.ArgumentSteps.{evaluate_arguments_erased}
 use Rattle.text_tags.specs.declared.kind.TagAnswer.{TagAnswer}
 use Rattle.text_tags.specs.meaning.Nodes.{tag_turn, text_nodes}
 use Rattle.text_tags.specs.meaning.Sense.{TextTagSense}

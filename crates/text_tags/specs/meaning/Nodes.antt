@@ -4,8 +4,8 @@ use Rattle.liquid_error.specs.meaning.Refusal.{Refusal, ok_then}
 use Rattle.liquid_runtime.specs.meaning.View.{View}
 use Rattle.liquid_plugins.specs.meaning.Turning.{answers, begins_with, captures_nothing}
 use Rattle.liquid_plugins.specs.meaning.Turns.{TurnShape, text_turn, NodeMeaning}
-use Rattle.std_filters.specs.declared.call.CallShape.{CallShape}
-use Rattle.std_filters.specs.meaning.Calls.{evaluate_arguments}
+use Rattle.liquid_filters.specs.declared.call.CallShape.{CallShape}
+use Rattle.liquid_filters.specs.meaning.Calls.{evaluate_arguments}
 use Rattle.text_tags.specs.declared.kind.TagAnswer.{TagAnswer}
 use Rattle.text_tags.specs.meaning.Sense.{TextTagSense}
 

@@ -3,8 +3,8 @@ use Rattle.std.specs.Prelude.{ℕ, List, Bool, Result, Ok}
 use Rattle.liquid_error.specs.meaning.Refusal.{Refusal, ok_then}
 use Rattle.liquid_scalar.specs.meaning.Scalar.{text}
 use Rattle.liquid_value.specs.meaning.Tree.{scalar}
-use Rattle.std_filters.specs.meaning.Given.{Given}
-use Rattle.std_filters.specs.meaning.Sense.{FilterSense}
+use Rattle.liquid_filters.specs.meaning.Given.{Given}
+use Rattle.liquid_filters.specs.meaning.Sense.{FilterSense}
 use Rattle.text_tags.specs.declared.kind.TagAnswer.{TagAnswer}
 
 -- the name; for each positional argument whether it may be left out; the keywords; the text that it writes, or the error

@@ -5,7 +5,7 @@ use liquid_core::Error;
 use liquid_core::model::{Value, ValueCow, ValueRender, to_value};
 use serde_json::Value as Json;
 use std::alloc::{AllocError, Global};
-use std_filters::{CallArguments, FilterKind, StdKind, filters};
+use liquid_filters::{CallArguments, FilterKind, StdKind, filters};
 
 /// The standard filters, each with its input and its arguments as JSON, and the text of what it returns, up to a bar at
 /// a line's end.

@@ -5,7 +5,7 @@ use liquid_value::{Value, ValueCow};
 use rows::{Line, rows_hold};
 use std::alloc::Global;
 use std::test::Fail;
-use std_filters::{CallArguments, FilterKind, StdKind, filters};
+use liquid_filters::{CallArguments, FilterKind, StdKind, filters};
 
 /// The filter, its input, its arguments, and the source of what it returns.
 const ROWS: &str =

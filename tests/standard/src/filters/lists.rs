@@ -5,10 +5,10 @@ use liquid_value::{Value, ValueCow};
 use rows::{Line, rows_hold};
 use std::alloc::Global;
 use std::test::Fail;
-use std_lists::choices::{compact, keep_where, map, uniq};
-use std_lists::lists::{concat, first, join, last, reverse};
-use std_lists::searches::{find, find_index, has, reject};
-use std_lists::sums::sum;
+use filter_lists::choices::{compact, keep_where, map, uniq};
+use filter_lists::lists::{concat, first, join, last, reverse};
+use filter_lists::searches::{find, find_index, has, reject};
+use filter_lists::sums::sum;
 
 /// A filter, its input, its arguments, and the source of what it returns.
 const ROWS: &str = r#"["first", [[1], 2], [], "[1, ]"]

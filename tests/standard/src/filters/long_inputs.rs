@@ -4,10 +4,10 @@ use liquid_value::{Array, SharedArray, Value, ValueCow};
 use rows::holds;
 use std::alloc::{AllocError, Global};
 use std::test::Fail;
-use std_conditions::contains;
-use std_lists::sums::sum;
-use std_order::order::sort;
-use std_texts::truncatewords;
+use liquid_conditions::contains;
+use filter_lists::sums::sum;
+use filter_sorting::order::sort;
+use filter_strings::truncatewords;
 
 /// How many items a long list has.
 const ITEMS: i64 = 100_002;

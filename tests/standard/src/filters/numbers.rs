@@ -6,9 +6,9 @@ use liquid_value::{Value, ValueCow};
 use rows::{Line, is_text, rows_hold};
 use std::alloc::Global;
 use std::test::Fail;
-use std_numbers::arithmetic::{at_least, at_most, divided_by, minus, modulo, plus, times};
-use std_numbers::single::{abs, ceil, floor, round};
-use std_numbers::units::{from_minor, to_minor, written_decimal};
+use filter_numbers::arithmetic::{at_least, at_most, divided_by, minus, modulo, plus, times};
+use filter_numbers::single::{abs, ceil, floor, round};
+use filter_numbers::units::{from_minor, to_minor, written_decimal};
 
 /// A filter, its input, its arguments, and the source of what it returns.
 const ROWS: &str = r#"["plus", "41", ["1"], "42"]

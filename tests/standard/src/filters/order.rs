@@ -5,8 +5,8 @@ use liquid_value::{Value, ValueCow};
 use rows::{Line, rows_hold};
 use std::alloc::Global;
 use std::test::Fail;
-use std_order::numbers::sort_numeric;
-use std_order::order::{sort, sort_natural};
+use filter_sorting::numbers::sort_numeric;
+use filter_sorting::order::{sort, sort_natural};
 
 /// A filter, its input, its arguments, and the source of what it returns.
 const ROWS: &str = r#"["sort", [3, null, 1], [], "[1, 3, , ]"]

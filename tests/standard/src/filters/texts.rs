@@ -5,7 +5,7 @@ use liquid_value::{Value, ValueCow};
 use rows::{Line, rows_hold};
 use std::alloc::Global;
 use std::test::Fail;
-use std_texts::{
+use filter_strings::{
     append, base64_decode, base64_encode, base64_url_safe_decode, base64_url_safe_encode,
     capitalize, downcase, escape, escape_once, lstrip, newline_to_br, prepend, remove,
     remove_first, remove_last, replace, replace_first, replace_last, rstrip, slice, split, strip,

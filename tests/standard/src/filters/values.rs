@@ -3,9 +3,9 @@ use liquid_value::Value;
 use rows::holds;
 use std::alloc::{AllocError, Global};
 use std::test::Fail;
-use std_values::items::items;
-use std_values::numbers::{number, whole};
-use std_values::parts::{is_truthy, property, size_of};
+use filter_values::items::items;
+use filter_values::numbers::{number, whole};
+use filter_values::parts::{is_truthy, property, size_of};
 
 /// Returns an array of an array and a number.
 fn nested(alloc: Global) -> Result<Value, AllocError> {

@@ -1,6 +1,6 @@
 use Rattle.std.proofs.Common.{◌≡◌, drop, map}
 use Rattle.liquid_value.specs.meaning.View.{view as tree_of}
-use Rattle.std_lists.specs.meaning.Entries.{entry_view}
+use Rattle.filter_lists.specs.meaning.Entries.{entry_view}
 use Rattle.jekyll_lists.specs.meaning.Choosing.{first_having, fits}
 use Rattle.jekyll_lists.proofs.choosing.first_fitting.Given as goal
 

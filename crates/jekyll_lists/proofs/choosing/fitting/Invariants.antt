@@ -1,7 +1,7 @@
 use Rattle.std.proofs.Common.{◌≡◌, ◌++◌, drop, filter, map}
 use Rattle.liquid_value.specs.meaning.View.{view as tree_of}
-use Rattle.std_lists.specs.meaning.Choices.{items_in}
-use Rattle.std_lists.specs.meaning.Entries.{entry_view}
+use Rattle.filter_lists.specs.meaning.Choices.{items_in}
+use Rattle.filter_lists.specs.meaning.Entries.{entry_view}
 use Rattle.jekyll_lists.specs.meaning.Choosing.{fits}
 use Rattle.jekyll_lists.proofs.choosing.fitting.Given as goal
 

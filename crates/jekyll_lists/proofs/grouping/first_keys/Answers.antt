@@ -2,10 +2,10 @@ use Rattle.std.proofs.Common.{◌+◌, [], ◌∷◌, ◌++◌, drop, map, ap, s
 use Rattle.std.proofs.lemmas.Bool.{MatchBool-at_true, MatchBool-at_false, not-true}
 use Rattle.std.proofs.lemmas.List.{map-append}
 use Rattle.liquid_value.specs.meaning.View.{view}
-use Rattle.std_lists.specs.meaning.Choices.{distinct, keys_of}
-use Rattle.std_lists.specs.meaning.Entries.{entry_view}
-use Rattle.std_lists.proofs.DistinctLemmas.{is_seen, unseen, not-false}
-use Rattle.std_lists.proofs.Steps.{mapped-drop}
+use Rattle.filter_lists.specs.meaning.Choices.{distinct, keys_of}
+use Rattle.filter_lists.specs.meaning.Entries.{entry_view}
+use Rattle.filter_lists.proofs.DistinctLemmas.{is_seen, unseen, not-false}
+use Rattle.filter_lists.proofs.Steps.{mapped-drop}
 use Rattle.jekyll_lists.proofs.GroupLemmas.{keys-start, keys-new, keys-old}
 use Rattle.jekyll_lists.proofs.grouping.first_keys.Goals as goal
 use Rattle.jekyll_lists.proofs.grouping.first_keys.Goals.{then-branch+in_ok-push, else-branch}

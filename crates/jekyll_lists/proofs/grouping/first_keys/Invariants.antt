@@ -1,8 +1,8 @@
 use Rattle.std.proofs.Common.{◌≡◌, ◌++◌, drop, map}
 use Rattle.liquid_value.specs.meaning.View.{view as tree_of}
-use Rattle.std_lists.specs.meaning.Choices.{distinct, keys_of}
-use Rattle.std_lists.specs.meaning.Entries.{entry_view}
-use Rattle.std_lists.proofs.DistinctLemmas.{unseen}
+use Rattle.filter_lists.specs.meaning.Choices.{distinct, keys_of}
+use Rattle.filter_lists.specs.meaning.Entries.{entry_view}
+use Rattle.filter_lists.proofs.DistinctLemmas.{unseen}
 use Rattle.jekyll_lists.proofs.grouping.first_keys.Given as goal
 
 abbrev pub invariant-loop-entry : goal.invariant-loop-entry

@@ -1,6 +1,6 @@
 use Rattle.std.proofs.Common.{◌≡◌, ◌++◌, drop, map}
 use Rattle.liquid_value.specs.meaning.View.{view as tree_of}
-use Rattle.std_lists.specs.meaning.Entries.{entry_view}
+use Rattle.filter_lists.specs.meaning.Entries.{entry_view}
 use Rattle.jekyll_lists.specs.meaning.Grouping.{items_with}
 use Rattle.jekyll_lists.proofs.grouping.items_with.Given as goal
 

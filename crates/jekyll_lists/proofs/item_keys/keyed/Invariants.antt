@@ -1,7 +1,7 @@
 use Rattle.std.proofs.Common.{◌≡◌, drop, map}
 use Rattle.liquid_value.specs.meaning.View.{view as tree_of}
-use Rattle.std_lists.specs.meaning.Entries.{entry_view}
-use Rattle.std_lists.proofs.Steps.{after}
+use Rattle.filter_lists.specs.meaning.Entries.{entry_view}
+use Rattle.filter_lists.proofs.Steps.{after}
 use Rattle.jekyll_lists.specs.meaning.ItemKeys.{keyed}
 use Rattle.jekyll_lists.proofs.item_keys.keyed.Given as goal
 

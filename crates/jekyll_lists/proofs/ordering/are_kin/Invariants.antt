@@ -1,9 +1,9 @@
 use Rattle.std.proofs.Common.{◌≡◌, drop, map}
 use Rattle.std.specs.List.{list_all}
 use Rattle.liquid_value.specs.meaning.View.{view as tree_of}
-use Rattle.std_lists.specs.meaning.Choices.{keys_of}
-use Rattle.std_lists.specs.meaning.Entries.{entry_view}
-use Rattle.std_order.specs.meaning.Order.{one_kind}
+use Rattle.filter_lists.specs.meaning.Choices.{keys_of}
+use Rattle.filter_lists.specs.meaning.Entries.{entry_view}
+use Rattle.filter_sorting.specs.meaning.Order.{one_kind}
 use Rattle.jekyll_lists.proofs.ordering.are_kin.Given as goal
 
 abbrev pub invariant-loop-entry : goal.invariant-loop-entry

@@ -4,11 +4,11 @@ use Rattle.std.specs.Ordering.{is_lt}
 use Rattle.std.proofs.lemmas.Fn.{always_returns_same}
 use Rattle.std.proofs.lemmas.List.Sorted.{ranks_by}
 use Rattle.liquid_value.specs.meaning.Cow.{cow_view}
-use Rattle.std_lists.specs.declared.keys.Entry.{Entry}
-use Rattle.std_lists.specs.meaning.Entries.{entry_view}
-use Rattle.std_order.specs.meaning.Order.{comes_before, key_cmp}
-use Rattle.std_order.proofs.KeyOrder.{key_cmp_total}
-use Rattle.std_order.proofs.StableOrder.{in_order-from_sort, in_order-map}
+use Rattle.filter_lists.specs.declared.keys.Entry.{Entry}
+use Rattle.filter_lists.specs.meaning.Entries.{entry_view}
+use Rattle.filter_sorting.specs.meaning.Order.{comes_before, key_cmp}
+use Rattle.filter_sorting.proofs.KeyOrder.{key_cmp_total}
+use Rattle.filter_sorting.proofs.StableOrder.{in_order-from_sort, in_order-map}
 use Rattle.jekyll_lists.proofs.ordering.sort_entries.Goals as goal
 
 OnOk-map : {A E : Type 0} {P Q : Type 0} (r : Result A E) → (P → Q) → OnOk r P → OnOk r Q

@@ -1,5 +1,5 @@
 use Rattle.std.proofs.Common.{◌≡◌, ◌++◌, drop, map}
-use Rattle.std_lists.specs.meaning.Entries.{entry_view}
+use Rattle.filter_lists.specs.meaning.Entries.{entry_view}
 use Rattle.jekyll_lists.specs.meaning.Ordering.{with_texts}
 use Rattle.jekyll_lists.proofs.ordering.with_texts.Given as goal
 

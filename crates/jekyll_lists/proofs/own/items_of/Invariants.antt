@@ -1,6 +1,6 @@
 use Rattle.std.proofs.Common.{◌≡◌, ◌++◌, drop, map}
 use Rattle.liquid_value.specs.meaning.View.{view as tree_of, items_view}
-use Rattle.std_values.specs.meaning.Items.{own_items}
+use Rattle.filter_values.specs.meaning.Items.{own_items}
 use Rattle.jekyll_lists.proofs.own.items_of.Given as goal
 
 abbrev pub invariant-loop-item : goal.invariant-loop-item

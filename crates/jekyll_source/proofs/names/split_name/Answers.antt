@@ -1,7 +1,7 @@
 use Rattle.std.proofs.Common.{◌<◌, ◌≤◌, None, Some, ap, arith, cond, false, get_or, length, sym, ◌∙◌}
 use Rattle.std.proofs.lemmas.Str.{IsCharBoundary-before_ascii}
 use Rattle.std.specs.Option.{option_map}
-use Rattle.std_strings.proofs.HtmlLemmas.{to_end}
+use Rattle.liquid_strings.proofs.HtmlLemmas.{to_end}
 use Rattle.jekyll_source.specs.meaning.Names.{name_len}
 use Rattle.jekyll_source.specs.meaning.Splits.{split_at}
 use Rattle.jekyll_source.proofs.NameLemmas.{from_start, name_at_end, name_ends, name_turn, none_split, some_split, white_is_ascii}

@@ -1,4 +1,4 @@
-use Rattle.std_strings.proofs.HtmlLemmas.{to_end}
+use Rattle.liquid_strings.proofs.HtmlLemmas.{to_end}
 use Rattle.jekyll_source.proofs.NamePartLemmas.{brace_there, no_open, open_found}
 use Rattle.jekyll_source.proofs.PlainLemmas.{has_bytes}
 use Rattle.jekyll_source.proofs.names.text_len.Goals as goal

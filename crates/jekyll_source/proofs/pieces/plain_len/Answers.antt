@@ -1,6 +1,6 @@
 use Rattle.std.proofs.Common.{◌+◌, ap, arith, drop, sym}
 use Rattle.std.proofs.lemmas.List.{length-drop}
-use Rattle.std_strings.proofs.HtmlLemmas.{to_end}
+use Rattle.liquid_strings.proofs.HtmlLemmas.{to_end}
 use Rattle.jekyll_source.proofs.PlainLemmas.{brace_found, has_bytes, no_brace}
 use Rattle.jekyll_source.proofs.pieces.plain_len.Goals as goal
 

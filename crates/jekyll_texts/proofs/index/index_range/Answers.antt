@@ -1,6 +1,6 @@
 use Rattle.std.proofs.Common.{◌+◌, ◌<◌, ◌≤◌, arith, drop, length, sym, ◌∙◌}
 use Rattle.std.proofs.lemmas.List.{length-drop}
-use Rattle.std_strings.proofs.HtmlLemmas.{to_end}
+use Rattle.liquid_strings.proofs.HtmlLemmas.{to_end}
 use Rattle.jekyll_texts.proofs.IndexLemmas.{cuts_name, passes_on, replaces}
 use Rattle.jekyll_texts.proofs.index.index_range.Goals as goal
 

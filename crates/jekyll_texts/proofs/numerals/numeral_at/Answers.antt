@@ -1,6 +1,6 @@
 use Rattle.std.proofs.Common.{◌≡◌, ◌≤◌, length, drop, arith}
 use Rattle.std.specs.List.{prefix_len}
-use Rattle.std_strings.proofs.HtmlLemmas.{to_end}
+use Rattle.liquid_strings.proofs.HtmlLemmas.{to_end}
 use Rattle.jekyll_texts.specs.meaning.Numerals.{is_digit}
 use Rattle.jekyll_texts.proofs.NumeralLemmas.{ends_digits}
 use Rattle.jekyll_texts.proofs.numerals.numeral_at.Goals as goal

@@ -1,6 +1,6 @@
 use Rattle.std.proofs.Common.{Some, None, sym, ◌≡◌, ◌-◌, arith, refl}
 use Rattle.memchr.proofs.lemmas.ValueLemmas.{FindsLastNeedle-value}
-use Rattle.std_strings.proofs.PlaceLemmas.{cut_at_last, cut_after}
+use Rattle.liquid_strings.proofs.PlaceLemmas.{cut_at_last, cut_after}
 use Rattle.jekyll_urls.proofs.cuts.cut_last.Goals as goal
 
 pub range-requires-clause-end_boundary : goal.range-requires-clause-end_boundary

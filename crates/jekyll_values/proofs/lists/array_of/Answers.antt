@@ -1,6 +1,6 @@
 use Rattle.std.proofs.Common.{ap, ◌∙◌}
 use Rattle.liquid_value.specs.meaning.Tree.{array}
-use Rattle.std_texts.proofs.SliceLemmas.{items_copied}
+use Rattle.filter_strings.proofs.SliceLemmas.{items_copied}
 use Rattle.jekyll_values.proofs.lists.array_of.Goals as goal
 
 pub returns : goal.returns

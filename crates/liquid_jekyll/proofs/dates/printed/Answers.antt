@@ -1,7 +1,7 @@
 use Rattle.std.proofs.Common.{Ok, sym, ap, ◌∙◌}
 use Rattle.liquid_error.specs.meaning.Told.{told}
-use Rattle.std_filters.specs.meaning.Dates.{printed}
-use Rattle.std_filters.proofs.DateSteps.{formatted_is, refused}
+use Rattle.liquid_filters.specs.meaning.Dates.{printed}
+use Rattle.liquid_filters.proofs.DateSteps.{formatted_is, refused}
 use Rattle.liquid_jekyll.proofs.dates.printed.Goals as goal
 
 pub returns-in-Ok : goal.returns-in-Ok

@@ -6,7 +6,7 @@ use Rattle.liquid_plugins.specs.meaning.Turns.{text_turn}
 use Rattle.liquid_value.specs.meaning.Render.{render}
 use Rattle.liquid_value.specs.meaning.Tree.{nil}
 use Rattle.liquid_value.specs.meaning.View.{view as tree_of}
-use Rattle.std_filters.specs.meaning.Calls.{call_of}
+use Rattle.liquid_filters.specs.meaning.Calls.{call_of}
 use Rattle.text_tags.proofs.TurnLemmas.{turn_refused, turn_written}
 use Rattle.text_tags.proofs.node.text_turn.Goals as goal
 

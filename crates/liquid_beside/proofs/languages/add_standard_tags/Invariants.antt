@@ -1,0 +1,10 @@
+use Rattle.std.proofs.Common.{◌≡◌, drop, map}
+use Rattle.beside.specs.declared.one_of.Beside.TheVariants.{Library}
+use Rattle.liquid_tags.specs.meaning.Languages.{under_names}
+use Rattle.liquid_beside.specs.meaning.Languages.{own_tag}
+use Rattle.liquid_beside.proofs.languages.add_standard_tags.Given as goal
+
+abbrev pub invariant-loop-tag : goal.invariant-loop-tag
+invariant-loop-tag g l =
+    let name = own_tag g.O.TagReflection.tag_name in
+    under_names name l.tags (map Library (drop l.tag-index l.standard)) ≡ under_names name l.initial.tags (map Library l.standard)

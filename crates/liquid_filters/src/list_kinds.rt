@@ -1,0 +1,119 @@
+//! The filters on lists.
+ghost use Rattle.liquid_filters.specs.meaning.Standard.{list_sense};
+
+use crate::arguments::CallArguments;
+use crate::parameters::{ARRAY, NAME, NONE, PROPERTY, SEPARATOR, WHERE};
+use crate::row::{FilterKind, FilterRow};
+use liquid_error::Error;
+use liquid_value::Value;
+use std::alloc::Global;
+use filter_lists::choices::{compact, keep_where, map, uniq};
+use filter_lists::lists::{concat, first, join, last, reverse};
+use filter_lists::searches::{find, find_index, has, reject};
+use filter_lists::sums::sum;
+use filter_sorting::numbers::sort_numeric;
+use filter_sorting::order::{sort, sort_natural};
+
+/// A filter on lists.
+#[derive(Debug, Clone, Copy, PartialEq, Eq, Drop)]
+pub enum ListKind {
+    Compact,
+    Concat,
+    Find,
+    FindIndex,
+    First,
+    Has,
+    Join,
+    Last,
+    Map,
+    Reject,
+    Reverse,
+    Sort,
+    SortNatural,
+    SortNumeric,
+    Sum,
+    Uniq,
+    Where,
+}
+
+impl FilterKind for ListKind {
+    ghost sense = { list_sense };
+
+    fn row(&self) -> FilterRow {
+        match self {
+            ListKind::Compact => FilterRow::new(
+                "compact",
+                "The items that are not nil.",
+                &PROPERTY,
+            ),
+            ListKind::Concat => FilterRow::new(
+                "concat",
+                "The items, and those of an array.",
+                &ARRAY,
+            ),
+            ListKind::Find => FilterRow::new("find", "The first item with a property.", &WHERE),
+            ListKind::FindIndex => FilterRow::new(
+                "find_index",
+                "The index of the first item with a property.",
+                &WHERE,
+            ),
+            ListKind::First => FilterRow::new("first", "The first item.", &NONE),
+            ListKind::Has => FilterRow::new(
+                "has",
+                "Whether there is an item with a property.",
+                &WHERE,
+            ),
+            ListKind::Join => FilterRow::new(
+                "join",
+                "The texts of the items in a row.",
+                &SEPARATOR,
+            ),
+            ListKind::Last => FilterRow::new("last", "The last item.", &NONE),
+            ListKind::Map => FilterRow::new("map", "A property of each item.", &NAME),
+            ListKind::Reject => FilterRow::new("reject", "The items without a property.", &WHERE),
+            ListKind::Reverse => FilterRow::new("reverse", "The items from last to first.", &NONE),
+            ListKind::Sort => FilterRow::new("sort", "The items in order.", &PROPERTY),
+            ListKind::SortNatural => FilterRow::new(
+                "sort_natural",
+                "The items in order, whatever their case.",
+                &PROPERTY,
+            ),
+            ListKind::SortNumeric => FilterRow::new(
+                "sort_numeric",
+                "The items in the order of their numbers.",
+                &PROPERTY,
+            ),
+            ListKind::Sum => FilterRow::new("sum", "The sum of the items.", &PROPERTY),
+            ListKind::Uniq => FilterRow::new("uniq", "Each item once.", &PROPERTY),
+            ListKind::Where => FilterRow::new("where", "The items with a property.", &WHERE),
+        }
+    }
+
+    fn answer(
+        &self,
+        alloc: Global,
+        input: &Value,
+        arguments: &CallArguments<'_>,
+    ) -> Result<Value, Error> {
+        let given = arguments.positional;
+        match self {
+            ListKind::Compact => compact(alloc, input, given),
+            ListKind::Concat => concat(alloc, input, given),
+            ListKind::Find => find(alloc, input, given),
+            ListKind::FindIndex => find_index(alloc, input, given),
+            ListKind::First => first(alloc, input),
+            ListKind::Has => has(alloc, input, given),
+            ListKind::Join => join(alloc, input, given),
+            ListKind::Last => last(alloc, input),
+            ListKind::Map => map(alloc, input, given),
+            ListKind::Reject => reject(alloc, input, given),
+            ListKind::Reverse => reverse(alloc, input),
+            ListKind::Sort => sort(alloc, input, given),
+            ListKind::SortNatural => sort_natural(alloc, input, given),
+            ListKind::SortNumeric => sort_numeric(alloc, input, given),
+            ListKind::Sum => sum(alloc, input, given),
+            ListKind::Uniq => uniq(alloc, input, given),
+            ListKind::Where => keep_where(alloc, input, given),
+        }
+    }
+}

@@ -1,5 +1,0 @@
-use Rattle.std.proofs.Common.{length}
-use Rattle.std_filters.proofs.arguments.+find_keyword.Given as goal
-
-abbrev pub decreases-find_keyword : goal.decreases-find_keyword
-decreases-find_keyword l = length l.given.now

@@ -1,5 +1,0 @@
-use Rattle.std_laws.proofs.ForWriteLemmas.{for_runs}
-use Rattle.std_laws.proofs.laws.for_renders_each_item.Goals as goal
-
-pub returns : goal.returns
-returns g c = λ fresh m. for_runs _ fresh m
