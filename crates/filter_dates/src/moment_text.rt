@@ -6,8 +6,8 @@ use crate::clock_text::{time_after_mark, time_in_words};
 use crate::day_text::{day_in_numbers, day_in_words};
 use crate::fields::{Clock, Fields};
 use crate::names::weekday_named;
-use std::alloc::{AllocError, Global};
 use liquid_strings::{replace, words};
+use std::alloc::{AllocError, Global};
 
 /// Returns the numbers of the date time that a text writes: perhaps a weekday, a date, and perhaps a time of day and an
 /// offset.

@@ -10,13 +10,13 @@ ghost use Rattle.filter_lists.specs.meaning.Lists.{list_of};
 ghost use Rattle.filter_lists.specs.meaning.Entries.{entry_view};
 
 use crate::keys::{Entry, entries, keyed};
+use filter_values::errors::unexpected_arguments;
+use filter_values::items::items;
+use filter_values::parts::is_truthy;
 use liquid_error::Error;
 use liquid_value::{Array, Value, ValueCow};
 use std::alloc::{AllocError, Global};
 use std::collections::HashSet;
-use filter_values::errors::unexpected_arguments;
-use filter_values::items::items;
-use filter_values::parts::is_truthy;
 
 /// Returns the property of each item that the argument names.
 pub fn map(alloc: Global, input: &Value, arguments: &[ValueCow<'_>]) -> Result<Value, Error>

@@ -7,13 +7,13 @@ ghost use Rattle.liquid_value.specs.meaning.View.{view as tree_of};
 ghost use Rattle.filter_lists.specs.meaning.Keys.{entries, key_of, keyed, name_of, optional_name};
 ghost use Rattle.filter_lists.specs.meaning.Entries.{entry_view};
 
+use filter_values::errors::unexpected_arguments;
+use filter_values::items::items;
+use filter_values::parts::property;
 use liquid_error::Error;
 use liquid_value::{Value, ValueCow};
 use std::alloc::{AllocError, Global};
 use std::borrow::CowStr;
-use filter_values::errors::unexpected_arguments;
-use filter_values::items::items;
-use filter_values::parts::property;
 
 /// An item and its key.
 #[derive(Drop)]

@@ -10,13 +10,13 @@ ghost use Rattle.filter_values.specs.meaning.Items.{own_items};
 ghost use Rattle.filter_lists.specs.meaning.Lists.{concat, concatenated, first, first_item, first_member};
 ghost use Rattle.filter_lists.specs.meaning.Lists.{join, joined, last, last_item, list_of, reversed};
 
+use filter_values::errors::{array_expected, unexpected_arguments};
+use filter_values::items::items;
 use liquid_error::Error;
 use liquid_scalar::ScalarOf;
 use liquid_value::render::ValueRender;
 use liquid_value::{Array, Object, Value, ValueCow};
 use std::alloc::{AllocError, Global};
-use filter_values::errors::{array_expected, unexpected_arguments};
-use filter_values::items::items;
 
 /// Returns an array's first item, an object's first name and value as an array, and nil for any other value.
 pub fn first(alloc: Global, input: &Value) -> Result<Value, Error>

@@ -12,12 +12,12 @@ ghost use Rattle.filter_lists.specs.meaning.Tests.{tested_view};
 
 use crate::choices::{is_wanted, push_copy};
 use crate::keys::{Entry, keyed};
+use filter_values::errors::unexpected_arguments;
+use filter_values::items::items;
 use liquid_error::Error;
 use liquid_scalar::ScalarOf;
 use liquid_value::{Value, ValueCow};
 use std::alloc::{AllocError, Global};
-use filter_values::errors::unexpected_arguments;
-use filter_values::items::items;
 
 /// An item, and whether its property is as wanted.
 #[derive(Clone, Copy)]

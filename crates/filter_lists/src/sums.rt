@@ -12,13 +12,13 @@ ghost use Rattle.filter_lists.specs.meaning.Sums.{numbers, summed};
 
 use crate::decimal_sums::sum_of;
 use crate::keys::{key_of, optional_name};
+use filter_values::decimals::{decimal, limited_decimal};
+use filter_values::items::items;
 use liquid_decimals::Decimal;
 use liquid_error::Error;
 use liquid_value::{Value, ValueCow};
 use std::alloc::Global;
 use std::borrow::CowStr;
-use filter_values::decimals::{decimal, limited_decimal};
-use filter_values::items::items;
 
 /// Returns the sum of the items, or of the property that the argument names. It is exact, with as many digits after the
 /// point as the number that has most. Only the sum itself must fit.

@@ -11,14 +11,14 @@ ghost use Rattle.filter_numbers.specs.meaning.Filters.{modulo, operands, plus, q
 
 use crate::digits::scale;
 use crate::division::{floor_quotient, floor_remainder, narrow};
+use filter_values::decimals::{decimal, decimal_value, is_whole, limited_decimal};
+use filter_values::errors::{divided_by_zero, unexpected_arguments};
+use filter_values::numbers::limited;
 use liquid_decimals::Decimal;
 use liquid_error::Error;
 use liquid_scalar::ScalarOf;
 use liquid_value::{Value, ValueCow};
 use std::alloc::Global;
-use filter_values::decimals::{decimal, decimal_value, is_whole, limited_decimal};
-use filter_values::errors::{divided_by_zero, unexpected_arguments};
-use filter_values::numbers::limited;
 
 /// Returns the sum of the input and the argument.
 pub fn plus(alloc: Global, input: &Value, arguments: &[ValueCow<'_>]) -> Result<Value, Error>

@@ -3,11 +3,11 @@ ghost use Rattle.liquid_error.specs.meaning.Told.{Gives};
 ghost use Rattle.liquid_value.specs.meaning.View.{view as tree_of};
 ghost use Rattle.filter_numbers.specs.meaning.Digits.{scale};
 
+use filter_values::errors::{digits_past_limit, past_limit};
+use filter_values::numbers::whole;
 use liquid_error::Error;
 use liquid_value::Value;
 use std::alloc::Global;
-use filter_values::errors::{digits_past_limit, past_limit};
-use filter_values::numbers::whole;
 
 /// The greatest number of digits after the point.
 const GREATEST_SCALE: i64 = 18;

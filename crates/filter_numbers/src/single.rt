@@ -10,14 +10,14 @@ ghost use Rattle.filter_numbers.specs.meaning.Filters.{abs, ceil, digits, floor,
 
 use crate::division::narrow;
 use crate::rounding::rounded;
+use filter_values::decimals::{decimal, is_whole, limited_decimal};
+use filter_values::errors::unexpected_arguments;
+use filter_values::numbers::{limited, number};
 use liquid_decimals::Decimal;
 use liquid_error::Error;
 use liquid_scalar::ScalarOf;
 use liquid_value::{Value, ValueCow};
 use std::alloc::Global;
-use filter_values::decimals::{decimal, is_whole, limited_decimal};
-use filter_values::errors::unexpected_arguments;
-use filter_values::numbers::{limited, number};
 
 /// The greatest number of digits after the point.
 const GREATEST_SCALE: u64 = 18;

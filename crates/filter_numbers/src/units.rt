@@ -7,14 +7,14 @@ ghost use Rattle.liquid_value.specs.meaning.View.{view as tree_of};
 ghost use Rattle.filter_numbers.specs.meaning.Units.{from_minor, minor, styled_number, styled_text, to_minor, written_decimal};
 
 use crate::digits::scale;
+use filter_values::decimals::{decimal, limited_decimal};
+use filter_values::errors::{digits_past_limit, past_limit, unexpected_arguments};
+use filter_values::numbers::number;
 use liquid_decimals::Decimal;
 use liquid_error::Error;
 use liquid_scalar::ScalarOf;
 use liquid_value::{Value, ValueCow};
 use std::alloc::Global;
-use filter_values::decimals::{decimal, limited_decimal};
-use filter_values::errors::{digits_past_limit, past_limit, unexpected_arguments};
-use filter_values::numbers::number;
 
 /// Returns the text of the input with exactly as many digits after the point as the first argument says; a half is rounded
 /// away from zero. The second argument is the point, and the third stands between each three digits before it.

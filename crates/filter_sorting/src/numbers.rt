@@ -11,13 +11,13 @@ ghost use Rattle.filter_sorting.specs.meaning.Numbers.{sorted_numerically};
 ghost use Rattle.filter_sorting.specs.meaning.Numbered.{numbered_view};
 ghost use Rattle.filter_sorting.specs.meaning.Order.{in_order};
 
+use filter_lists::keys::{Entry, entries};
+use filter_values::decimals::decimal;
 use liquid_decimals::Decimal;
 use liquid_error::Error;
 use liquid_value::{Value, ValueCow};
 use std::alloc::{AllocError, Global};
 use std::cmp::Ordering;
-use filter_lists::keys::{Entry, entries};
-use filter_values::decimals::decimal;
 
 /// An item and the number of its key, which a nil key has not.
 #[derive(Clone, Copy)]

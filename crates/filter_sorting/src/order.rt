@@ -11,13 +11,13 @@ ghost use Rattle.filter_sorting.specs.meaning.Order.{checked, comes_before, in_o
 ghost use Rattle.filter_sorting.specs.meaning.Order.{ordered, present, rank, scalar_rank, sorted, sorted_naturally, without_kin};
 ghost use Rattle.filter_lists.specs.meaning.Entries.{entry_view};
 
+use filter_lists::keys::{Entry, entries};
+use filter_values::errors::without_order;
 use liquid_error::Error;
 use liquid_scalar::{Scalar, ScalarOf};
 use liquid_value::{Value, ValueCow};
 use std::alloc::{AllocError, Global};
 use std::cmp::Ordering;
-use filter_lists::keys::{Entry, entries};
-use filter_values::errors::without_order;
 
 /// Returns the items in the order of their keys, which are themselves or the property that the argument names.
 ///

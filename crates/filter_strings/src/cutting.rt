@@ -7,13 +7,13 @@ ghost use Rattle.liquid_value.specs.meaning.View.{view as tree_of, items_view};
 ghost use Rattle.filter_strings.specs.meaning.Cutting.{slice, slice_length, sliced, sliced_items, truncate, truncated, truncated_to};
 ghost use Rattle.filter_strings.specs.meaning.Cutting.{truncatewords, words_truncated, words_truncated_to};
 
-use liquid_error::Error;
-use liquid_scalar::ScalarOf;
-use liquid_value::{Array, Value, ValueCow};
-use std::alloc::{AllocError, Global};
-use liquid_strings as strings;
 use filter_values::errors::unexpected_arguments;
 use filter_values::numbers::whole;
+use liquid_error::Error;
+use liquid_scalar::ScalarOf;
+use liquid_strings as strings;
+use liquid_value::{Array, Value, ValueCow};
+use std::alloc::{AllocError, Global};
 
 /// Returns the text if it has at most as many characters as the first argument says, or 50. Otherwise returns its first
 /// ones and the ending, the second argument or `...`, with that many in all if the ending has no more. Nil is kept.

@@ -8,12 +8,12 @@ ghost use Rattle.filter_strings.specs.meaning.Encoding.{base64_url_safe_decoded,
 
 use base64::DecodeAllocError;
 use base64::engine::general_purpose::{STANDARD, URL_SAFE};
+use filter_values::errors::{decoded_no_text, invalid_base64};
 use liquid_error::Error;
 use liquid_scalar::ScalarOf;
+use liquid_strings as strings;
 use liquid_value::Value;
 use std::alloc::Global;
-use liquid_strings as strings;
-use filter_values::errors::{decoded_no_text, invalid_base64};
 
 /// Returns the text as a part of a URL. Nil is kept.
 pub fn url_encode(alloc: Global, input: &Value) -> Result<Value, Error>

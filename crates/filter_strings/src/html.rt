@@ -6,9 +6,9 @@ ghost use Rattle.filter_strings.specs.meaning.Html.{html_escaped, html_escaped_o
 
 use liquid_error::Error;
 use liquid_scalar::ScalarOf;
+use liquid_strings as strings;
 use liquid_value::Value;
 use std::alloc::Global;
-use liquid_strings as strings;
 
 /// Returns the text with each of `&`, `<`, `>`, `"` and `'` as its entity. Nil is kept.
 pub fn escape(alloc: Global, input: &Value) -> Result<Value, Error>

@@ -5,12 +5,12 @@ ghost use Rattle.liquid_value.specs.meaning.Cow.{cow_view};
 ghost use Rattle.liquid_value.specs.meaning.View.{view as tree_of};
 ghost use Rattle.filter_strings.specs.meaning.Joints.{appended, joined, prepended};
 
+use filter_values::errors::unexpected_arguments;
 use liquid_error::Error;
 use liquid_scalar::ScalarOf;
 use liquid_value::render::ValueRender;
 use liquid_value::{Value, ValueCow};
 use std::alloc::Global;
-use filter_values::errors::unexpected_arguments;
 
 /// The most bytes that an integer is written in.
 const DIGITS: usize = 20;

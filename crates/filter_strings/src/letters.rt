@@ -6,9 +6,9 @@ ghost use Rattle.filter_strings.specs.meaning.Letters.{capitalized, downcased, u
 
 use liquid_error::Error;
 use liquid_scalar::ScalarOf;
+use liquid_strings as strings;
 use liquid_value::Value;
 use std::alloc::Global;
-use liquid_strings as strings;
 
 /// Returns the text with each character in upper case.
 pub fn upcase(alloc: Global, input: &Value) -> Result<Value, Error>

@@ -6,9 +6,9 @@ ghost use Rattle.filter_strings.specs.meaning.Lines.{joined_lines, marked_lines}
 
 use liquid_error::Error;
 use liquid_scalar::ScalarOf;
+use liquid_strings::replace_line_ends;
 use liquid_value::Value;
 use std::alloc::Global;
-use liquid_strings::replace_line_ends;
 
 /// Returns the text without its line feeds and the carriage returns right before them.
 pub fn strip_newlines(alloc: Global, input: &Value) -> Result<Value, Error>

@@ -8,12 +8,12 @@ ghost use Rattle.liquid_strings.specs.meaning.Replace.{replaced, replaced_first,
 ghost use Rattle.filter_strings.specs.meaning.Replacing.{remove, remove_first, remove_last, replace, replace_first, replace_last};
 ghost use Rattle.filter_strings.specs.meaning.Written.{written};
 
+use filter_values::errors::unexpected_arguments;
 use liquid_error::Error;
 use liquid_scalar::ScalarOf;
+use liquid_strings as strings;
 use liquid_value::{Value, ValueCow};
 use std::alloc::Global;
-use liquid_strings as strings;
-use filter_values::errors::unexpected_arguments;
 
 /// Returns the text with the second argument, or nothing, in each place of the first.
 pub fn replace(alloc: Global, input: &Value, arguments: &[ValueCow<'_>]) -> Result<Value, Error>

@@ -5,12 +5,12 @@ ghost use Rattle.liquid_value.specs.meaning.Cow.{cow_view};
 ghost use Rattle.liquid_value.specs.meaning.View.{view as tree_of};
 ghost use Rattle.filter_strings.specs.meaning.Splitting.{split, texts};
 
+use filter_values::errors::unexpected_arguments;
 use liquid_error::Error;
 use liquid_scalar::ScalarOf;
+use liquid_strings as strings;
 use liquid_value::{Value, ValueCow};
 use std::alloc::{AllocError, Global};
-use liquid_strings as strings;
-use filter_values::errors::unexpected_arguments;
 
 /// Returns the parts of the text: its words if the argument is a space, its characters if that is empty, and otherwise
 /// what is between the places of the argument, without empty parts at the end.

@@ -10,14 +10,14 @@ ghost use Rattle.jekyll_lists.specs.meaning.Choosing as Spec;
 
 use crate::item_keys::keyed;
 use crate::own::own_items;
-use liquid_error::Error;
-use liquid_scalar::ScalarOf;
-use liquid_value::{Object, Value, ValueCow};
-use std::alloc::{AllocError, Global};
 use filter_lists::choices;
 use filter_lists::keys::Entry;
 use filter_values::errors::unexpected_arguments;
 use filter_values::items::items;
+use liquid_error::Error;
+use liquid_scalar::ScalarOf;
+use liquid_value::{Object, Value, ValueCow};
+use std::alloc::{AllocError, Global};
 
 /// Returns the items whose key fits the second argument. Without it, the standard filter is meant.
 ///

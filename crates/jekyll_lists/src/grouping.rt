@@ -14,13 +14,13 @@ ghost use Rattle.jekyll_lists.specs.meaning.Grouping as Spec;
 use crate::item_keys::keyed;
 use crate::ordering::with_texts;
 use crate::own::items_of;
+use filter_lists::keys::Entry;
+use filter_values::errors::{array_expected, unexpected_arguments};
 use liquid_error::Error;
 use liquid_scalar::ScalarOf;
 use liquid_value::{Object, Value, ValueCow};
 use std::alloc::{AllocError, Global};
 use std::collections::HashSet;
-use filter_lists::keys::Entry;
-use filter_values::errors::{array_expected, unexpected_arguments};
 
 /// Returns the groups of items whose keys have the same text, in the order of their first items. A group is an object of
 /// `name`, the text, `items` and `size`.

@@ -6,15 +6,15 @@ ghost use Rattle.liquid_value.specs.meaning.View.{view as tree_of};
 ghost use Rattle.filter_lists.specs.meaning.Entries.{entry_view};
 ghost use Rattle.jekyll_lists.specs.meaning.ItemKeys as Spec;
 
+use filter_lists::keys::Entry;
+use filter_values::parts::property;
 use jekyll_texts::strip_spaces;
 use liquid_error::Error;
 use liquid_scalar::{ScalarCow, ScalarOf};
+use liquid_strings::split;
 use liquid_value::{Value, ValueCow};
 use std::alloc::Global;
 use std::borrow::CowStr;
-use filter_lists::keys::Entry;
-use liquid_strings::split;
-use filter_values::parts::property;
 
 /// Returns each item with its key by a path.
 pub(crate) fn keyed<'v>(

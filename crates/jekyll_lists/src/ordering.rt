@@ -13,14 +13,14 @@ ghost use Rattle.jekyll_lists.specs.meaning.Ordering as Spec;
 use crate::comparing::{compare_keys, is_nil, one_kind};
 use crate::item_keys::keyed;
 use crate::own::items_of;
+use filter_lists::keys::Entry;
+use filter_sorting::order;
+use filter_values::errors::{array_expected, unexpected_arguments};
 use liquid_error::Error;
 use liquid_scalar::ScalarOf;
 use liquid_value::render::{ValueRender, ValueSource};
 use liquid_value::{Object, Value, ValueCow};
 use std::alloc::{AllocError, Global};
-use filter_lists::keys::Entry;
-use filter_sorting::order;
-use filter_values::errors::{array_expected, unexpected_arguments};
 
 /// Where items without a key are put.
 #[derive(Debug, Clone, Copy, PartialEq, Eq)]

@@ -6,8 +6,8 @@ ghost use Rattle.jekyll_source.specs.meaning.Splits.{is_quote};
 ghost use Rattle.jekyll_source.specs.steps.Parts.{quote_byte};
 
 use crate::literals::{Quote, push_between, push_literal};
-use std::alloc::{AllocError, Global};
 use liquid_strings::replace;
+use std::alloc::{AllocError, Global};
 
 /// A text in quotes, with what is before and after it.
 #[derive(Debug, Clone, Copy)]

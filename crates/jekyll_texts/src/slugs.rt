@@ -4,8 +4,8 @@ ghost use Rattle.jekyll_texts.specs.meaning.Slugs as Spec;
 
 use crate::character_sets::CharacterSet;
 use crate::runs::{with_runs_as, without_ends};
-use std::alloc::{AllocError, Global};
 use liquid_strings::to_lowercase;
+use std::alloc::{AllocError, Global};
 
 /// Which characters a slug keeps.
 #[derive(Debug, Clone, Copy, PartialEq, Eq)]

@@ -5,8 +5,8 @@ ghost use Rattle.jekyll_urls.specs.meaning.Path as Spec;
 
 use crate::parts::{UrlPart, clean};
 use jekyll_texts::strip_spaces;
-use std::alloc::{AllocError, Global};
 use liquid_strings::pieces;
+use std::alloc::{AllocError, Global};
 
 /// Returns the path in its normal form: without white space at its ends, with clean segments, and, if it begins with a
 /// slash, without the segments `.` and `..`. The second one takes the segment before it along.

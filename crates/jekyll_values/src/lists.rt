@@ -9,14 +9,14 @@ ghost use Rattle.liquid_strings.specs.meaning.Slices.{count_in};
 ghost use Rattle.filter_values.specs.meaning.Items.{own_items};
 ghost use Rattle.jekyll_values.specs.meaning.Lists as Spec;
 
+use filter_values::errors::unexpected_arguments;
+use filter_values::items::items;
+use filter_values::numbers::whole;
 use liquid_error::Error;
 use liquid_scalar::ScalarOf;
 use liquid_value::render::ValueRender;
 use liquid_value::{Array, Value, ValueCow};
 use std::alloc::{AllocError, Global};
-use filter_values::errors::unexpected_arguments;
-use filter_values::items::items;
-use filter_values::numbers::whole;
 
 /// Which end of an array is cut.
 #[derive(Debug, Clone, Copy, PartialEq, Eq)]

@@ -5,14 +5,14 @@ ghost use Rattle.liquid_value.specs.meaning.View.{view as tree_of};
 ghost use Rattle.liquid_scalar.specs.meaning.Scalar.{scal};
 ghost use Rattle.jekyll_values.specs.meaning.Numbers as Spec;
 
+use filter_values::errors::whole_number_expected;
+use filter_values::numbers::limited;
 use jekyll_texts::numeral;
 use liquid_error::Error;
 use liquid_scalar::{Scalar, ScalarCow, ScalarOf};
 use liquid_value::Value;
 use std::alloc::Global;
 use std::borrow::CowStr;
-use filter_values::errors::whole_number_expected;
-use filter_values::numbers::limited;
 
 /// Returns the whole number of a value: a number itself, 1 for `true`, 0 for `false` and nil, and otherwise the number with
 /// which the text begins after white space, or 0 without one.

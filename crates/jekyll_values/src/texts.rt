@@ -5,15 +5,15 @@ ghost use Rattle.liquid_value.specs.meaning.Cow.{cow_view};
 ghost use Rattle.liquid_value.specs.meaning.View.{view as tree_of};
 ghost use Rattle.jekyll_values.specs.meaning.Texts as Spec;
 
+use filter_values::errors::unexpected_arguments;
 use jekyll_texts as jekyll;
 use jekyll_texts::{SlugMode, WordMode};
 use jekyll_urls::{UrlPart, clean};
 use liquid_error::Error;
 use liquid_scalar::ScalarOf;
+use liquid_strings::to_lowercase;
 use liquid_value::{Value, ValueCow};
 use std::alloc::{AllocError, Global};
-use liquid_strings::to_lowercase;
-use filter_values::errors::unexpected_arguments;
 
 /// Returns the text with one space in place of each run of white space, and none at the ends.
 pub fn normalize_whitespace(alloc: Global, input: &Value) -> Result<Value, Error>

@@ -1,10 +1,13 @@
 //! The commands `liquid page` and `liquid check`, in standard Liquid over the machine's files and streams.
 
 use crate::watch::watch;
+use filter_dates::moment_of;
 use liquid_core::partials::InMemorySource;
 use liquid_core::{Error, Value};
+use liquid_cycle::Marks;
 use liquid_dates::DateTime;
 use liquid_files::Machine;
+use liquid_filters::{FilterPlugin, StdKind, filters};
 use liquid_page::{Explain, NoRequest, Outcome, Request, Task, check_pages, read_words, run_page};
 use liquid_pages::{PageFrame, PageLimit, PageOptions};
 use liquid_program::command::Options;
@@ -17,9 +20,6 @@ use std::alloc::{AllocError, Global};
 use std::io::{self, IsTerminal};
 use std::rc::Rc;
 use std::time::Instant;
-use filter_dates::moment_of;
-use liquid_filters::{FilterPlugin, StdKind, filters};
-use liquid_cycle::Marks;
 
 /// Explains errors as `liquid render --explain` does.
 #[derive(Drop)]

@@ -14,10 +14,10 @@ use crate::rendering::{NO_MEMORY, NO_OPTIONS, finish, refuse_moment, refused};
 use crate::repeated::RenderOver;
 use liquid_core::Fresh;
 use liquid_core::parser::{Discreet, Language, ParseBlock, ParseFilter, ParseTag};
+use liquid_cycle::Marks;
 use liquid_pages::{PageOptions, Rendered, prepare_page};
 use std::alloc::Global;
 use std::rc::Rc;
-use liquid_cycle::Marks;
 
 /// Renders a page over each of these globals, as far as there are outcomes, each into the bytes of `out` that
 /// the pages before it left, and returns how many are whole. `message` has the text of the last error.

@@ -12,12 +12,12 @@ use crate::moments::{MomentFault, given_moment};
 use crate::page::{DECIMALS, LENIENT, NOW, Page, SANDBOXED, STANDARD};
 use liquid_core::parser::{Language, PluginRegistry};
 use liquid_dates::DateTime;
+use liquid_filters::{FilterPlugin, StdKind, filters};
 use liquid_pages::{PageFrame, PageOptions};
 use liquid_std::{StdBlocks, StdTags};
 use liquid_tags::{Blocks, Tags};
 use std::alloc::{AllocError, Global};
 use std::rc::Rc;
-use liquid_filters::{FilterPlugin, StdKind, filters};
 
 /// The tags and blocks of `liquid_tags`, without filters.
 pub(crate) type PlainLanguage = Language<FilterPlugin<StdKind>, Tags, Blocks>;

@@ -10,11 +10,11 @@ ghost use Rattle.liquid_c.specs.steps.Chosen.{IsGiven};
 
 use crate::languages::has_bit;
 use crate::page::{NOW, Page};
+use filter_dates::moment_of;
 use liquid_dates::DateTime;
 use liquid_value::Value;
 use std::alloc::{AllocError, Global};
 use std::str::from_utf8;
-use filter_dates::moment_of;
 
 /// Why a page has no moment, though its options say that it has one.
 #[derive(Clone, Copy, Drop)]

@@ -29,10 +29,10 @@ use crate::page::{
 use crate::places::locate;
 use liquid_core::parser::{Discreet, Language, ParseBlock, ParseFilter, ParseTag};
 use liquid_core::{Error, Fresh, Place};
+use liquid_cycle::Marks;
 use liquid_pages::{PageFault, PageLimit, PageText, Rendered, render_page};
 use std::alloc::Global;
 use std::rc::Rc;
-use liquid_cycle::Marks;
 
 /// The kinds of an outcome that no fault has.
 pub(crate) const NO_MEMORY: u32 = 6;

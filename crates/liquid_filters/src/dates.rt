@@ -7,13 +7,13 @@ ghost use Rattle.liquid_value.specs.meaning.Tree.{scalar};
 ghost use Rattle.liquid_value.specs.meaning.View.{view as tree_of};
 ghost use Rattle.liquid_filters.specs.meaning.Dates.{dated, formatted, printed, printed_by};
 
+use filter_dates::{moment_of, pattern_error};
+use filter_values::errors::unexpected_arguments;
 use liquid_dates::DateTime;
 use liquid_error::Error;
 use liquid_scalar::ScalarOf;
 use liquid_value::{Value, ValueCow};
 use std::alloc::Global;
-use filter_dates::{moment_of, pattern_error};
-use filter_values::errors::unexpected_arguments;
 
 /// Formats the moment that the input means, by the pattern. Returns the input if it means no moment or if the pattern is
 /// empty.

@@ -15,12 +15,12 @@ ghost use Rattle.liquid_plugins.specs.meaning.ExpressionOf.{expression_of};
 
 use crate::call::FilterCall;
 use crate::row::FilterKind;
+use filter_values::errors::unexpected_arguments;
 use liquid_error::Error;
 use liquid_plugins::{
     Expression, FilterArguments, FilterReflection, ParameterReflection, ParseFilter,
 };
 use std::alloc::{AllocError, Global};
-use filter_values::errors::unexpected_arguments;
 
 /// A kind of filter as a plug-in.
 #[derive(Debug, Clone, Copy, Drop)]

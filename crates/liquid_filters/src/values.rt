@@ -6,12 +6,12 @@ ghost use Rattle.liquid_filters.specs.meaning.Given.{given};
 ghost use Rattle.liquid_filters.specs.meaning.Values.{allows_false, defaulted, is_false, is_missing, size};
 
 use crate::arguments::CallArguments;
+use filter_values::errors::unexpected_arguments;
+use filter_values::parts::{is_truthy, size_of};
 use liquid_error::Error;
 use liquid_scalar::ScalarOf;
 use liquid_value::{State, Value};
 use std::alloc::Global;
-use filter_values::errors::unexpected_arguments;
-use filter_values::parts::{is_truthy, size_of};
 
 /// Returns the argument if the input is nil, `false` or empty, and otherwise the input. With a truthy `allow_false` the
 /// input `false` is kept.

@@ -15,12 +15,12 @@ use crate::calls::PartialCall;
 use crate::passed::{Passed, passes};
 use liquid_core::parser::{Bytes, ListOf, Meant, TreeMark};
 use liquid_core::{Error, Expression, Frame, Object, Runtime, Turn, Value, no_names};
+use liquid_loops::forloop;
 use liquid_tags::Inclusion;
 use liquid_tags::names::bind;
 use liquid_tags::partial_call::call::{inclusion_trace, partial_name};
 use std::alloc::{AllocError, Global};
 use std::path::Path;
-use liquid_loops::forloop;
 
 /// The progress of a call with a value.
 #[derive(Drop)]

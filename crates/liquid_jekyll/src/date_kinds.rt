@@ -5,9 +5,9 @@ use crate::dates::{DateForm, written_date};
 use crate::parameters::{DAY, NONE};
 use liquid_dates::DateTime;
 use liquid_error::Error;
+use liquid_filters::{CallArguments, FilterKind, FilterRow};
 use liquid_value::Value;
 use std::alloc::Global;
-use liquid_filters::{CallArguments, FilterKind, FilterRow};
 
 /// A filter that writes a date, with the moment that the texts `now` and `today` mean, if there is one.
 #[derive(Clone, Copy, Drop)]

@@ -9,14 +9,14 @@ ghost use Rattle.liquid_value.specs.meaning.View.{view as tree_of};
 ghost use Rattle.liquid_filters.specs.meaning.Dates.{formatted, printed};
 ghost use Rattle.liquid_jekyll.specs.meaning.Dates as Spec;
 
+use filter_dates::{moment_of, pattern_error};
+use filter_values::errors::unexpected_arguments;
 use liquid_dates::DateTime;
 use liquid_error::Error;
 use liquid_scalar::ScalarOf;
 use liquid_value::render::ValueSource;
 use liquid_value::{Value, ValueCow};
 use std::alloc::{AllocError, Global};
-use filter_dates::{moment_of, pattern_error};
-use filter_values::errors::unexpected_arguments;
 
 /// How a filter writes a date.
 #[derive(Debug, Clone, Copy, PartialEq, Eq, Drop)]

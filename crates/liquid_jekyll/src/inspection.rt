@@ -6,9 +6,9 @@ ghost use Rattle.liquid_jekyll.specs.meaning.Texts.{inspected};
 
 use jekyll_values::xml_escape;
 use liquid_error::Error;
+use liquid_filters::json_text::json;
 use liquid_value::Value;
 use std::alloc::Global;
-use liquid_filters::json_text::json;
 
 /// Returns the input as JSON, escaped for XML.
 pub(crate) fn inspect(alloc: Global, input: &Value) -> Result<Value, Error>

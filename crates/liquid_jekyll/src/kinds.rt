@@ -5,9 +5,9 @@ use crate::date_kinds::JekyllDateKind;
 use crate::list_kinds::JekyllListKind;
 use crate::text_kinds::JekyllTextKind;
 use liquid_error::Error;
+use liquid_filters::{CallArguments, FilterKind, FilterRow};
 use liquid_value::Value;
 use std::alloc::Global;
-use liquid_filters::{CallArguments, FilterKind, FilterRow};
 
 /// A filter of Jekyll.
 #[derive(Clone, Copy, Drop)]

@@ -5,9 +5,9 @@ use crate::parameters::{CONNECTOR, COUNT, ITEM, KEY, KEY_AND_VALUE, SORT, WHERE}
 use jekyll_lists::{find, group_by, keep_where, sort};
 use jekyll_values::{array_to_sentence_string, pop, push, shift, unshift};
 use liquid_error::Error;
+use liquid_filters::{CallArguments, FilterKind, FilterRow};
 use liquid_value::Value;
 use std::alloc::Global;
-use liquid_filters::{CallArguments, FilterKind, FilterRow};
 
 /// A filter of Jekyll on a list.
 #[derive(Debug, Clone, Copy, PartialEq, Eq, Drop)]

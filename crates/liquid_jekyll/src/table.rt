@@ -8,9 +8,9 @@ use crate::kinds::JekyllKind;
 use crate::list_kinds::JekyllListKind;
 use crate::text_kinds::JekyllTextKind;
 use liquid_dates::DateTime;
+use liquid_filters::{Beside, FilterPlugin, StdKind, filters_beside};
 use liquid_plugins::PluginRegistry;
 use std::alloc::{AllocError, Global};
-use liquid_filters::{Beside, FilterPlugin, StdKind, filters_beside};
 
 /// Returns the standard filters and Jekyll's, which replace those of the same name. The filters on dates read the texts `now`
 /// and `today` as the moment that is given. Without a moment they are not dates.

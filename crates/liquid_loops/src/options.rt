@@ -5,11 +5,11 @@ ghost use Rattle.liquid_value.specs.meaning.View.{view as tree_of};
 ghost use Rattle.liquid_plugins.specs.meaning.ExpressionOf.{expression_of};
 ghost use Rattle.liquid_loops.specs.meaning.Options.{number_given, option_number, options_of};
 
+use filter_values::numbers::whole;
 use liquid_core::parser::Meant;
 use liquid_core::runtime::ExpressionMark;
 use liquid_core::{Error, Expression, Runtime, Value};
 use std::alloc::{AllocError, Global};
-use filter_values::numbers::whole;
 
 /// A block that goes over items.
 #[derive(Debug, Clone, Copy, PartialEq, Eq, Drop)]

@@ -2,12 +2,12 @@
 ghost use Rattle.std.specs.Prelude.{◌≡◌, IfOk};
 ghost use Rattle.liquid_program.specs.meaning.ProgramLanguage.{plain_filters, plain_sense};
 
+use filter_strings::append;
 use liquid_core::Error;
 use liquid_core::model::Value;
 use liquid_core::parser::{ParameterReflection, PluginRegistry};
-use std::alloc::{AllocError, Global};
 use liquid_filters::{CallArguments, FilterKind, FilterPlugin, FilterRow, register_all};
-use filter_strings::append;
+use std::alloc::{AllocError, Global};
 
 static TEXT: [ParameterReflection; 1] = [ParameterReflection {
     name: "text",

@@ -12,13 +12,13 @@ use crate::filters::{PlainFilters, plain_filters};
 use liquid_core::parser::Language;
 use liquid_core::partials::InMemorySource;
 use liquid_core::{Error, Object, Sink};
+use liquid_cycle::Marks;
+use liquid_filters::{FilterPlugin, StdKind, filters};
 use liquid_pages::{PageFrame, PageLimit, PageOptions, render_text};
 use liquid_std::{StdBlocks, StdTags};
 use liquid_tags::{Blocks, Tags};
 use std::alloc::{AllocError, Global};
 use std::rc::Rc;
-use liquid_filters::{FilterPlugin, StdKind, filters};
-use liquid_cycle::Marks;
 
 /// The tag library with `append` and `fail`.
 pub(crate) type PlainLanguage = Language<PlainFilters, Tags, Blocks>;

@@ -5,17 +5,17 @@ ghost use Rattle.liquid_std.specs.meaning.Blocks.{block_count, block_nodes, bloc
 
 use crate::capture::capture_turn;
 use crate::loops::{start_rounds, start_table};
-use liquid_core::parser::{Bytes, ListOf, Meant};
-use liquid_core::{Discreet, Error, Frame, Object, Renderable, Runtime, Turn};
-use liquid_tags::for_block::rounds::RoundsShape;
-use std::alloc::Global;
 use liquid_conditions::branches::CaseShape;
 use liquid_conditions::condition::ConditionShape;
 use liquid_conditions::{Case, Condition, part_case, part_if, part_unless};
+use liquid_core::parser::{Bytes, ListOf, Meant};
+use liquid_core::{Discreet, Error, Frame, Object, Renderable, Runtime, Turn};
+use liquid_cycle::{HoldsMarks, changed_turn};
 use liquid_loops::loops::LoopShape;
 use liquid_loops::tables::TableShape;
 use liquid_loops::{Loop, Rounds, Table, loop_turn, picked_items, table_over, table_turn};
-use liquid_cycle::{HoldsMarks, changed_turn};
+use liquid_tags::for_block::rounds::RoundsShape;
+use std::alloc::Global;
 
 /// The node of a block.
 #[derive(Drop)]

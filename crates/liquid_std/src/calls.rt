@@ -7,10 +7,10 @@ ghost use Rattle.liquid_std.specs.meaning.Tags.{tag_of};
 
 use crate::tags::StdTag;
 use liquid_core::{Error, Filter, TagTokenIter};
-use liquid_tags::{Inclusion, TagNode};
-use std::alloc::Global;
 use liquid_includes::ReadCall;
 use liquid_includes::read_call::read_call;
+use liquid_tags::{Inclusion, TagNode};
+use std::alloc::Global;
 
 /// Reads the node of an `include` or a `render`.
 pub(crate) fn parse_call<X: Filter>(

@@ -7,11 +7,11 @@ ghost use Rattle.liquid_std.specs.meaning.BlockPlugins.{case_given, plan_of, wit
 
 use crate::block_plugins::StdPlan;
 use crate::blocks::StdBlock;
+use liquid_conditions::Case;
+use liquid_conditions::read_values::read_values;
 use liquid_core::{Error, TagTokenIter};
 use liquid_tags::asked::{TOKEN_EXPECTED, alone};
 use std::alloc::Global;
-use liquid_conditions::Case;
-use liquid_conditions::read_values::read_values;
 
 /// The separators between two values of a `when`.
 static WHEN_SEPARATORS: [&str; 2] = [",", "or"];

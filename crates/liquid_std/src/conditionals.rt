@@ -9,10 +9,10 @@ ghost use Rattle.liquid_std.specs.meaning.BlockPlugins.{condition_planned, plan_
 
 use crate::block_plugins::StdPlan;
 use crate::blocks::StdBlock;
-use liquid_core::{Error, TagTokenIter};
-use std::alloc::Global;
 use liquid_conditions::Condition;
 use liquid_conditions::read_condition::read_condition;
+use liquid_core::{Error, TagTokenIter};
+use std::alloc::Global;
 
 /// Reads the start tag of an `if`.
 pub(crate) fn begin_if(alloc: Global, tokens: TagTokenIter<'_>) -> Result<StdPlan, Error>

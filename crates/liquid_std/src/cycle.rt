@@ -9,12 +9,12 @@ ghost use Rattle.liquid_std.specs.meaning.TagPlugins.{cycle_node_given};
 ghost use Rattle.liquid_std.specs.meaning.Tags.{tag_of};
 
 use crate::tags::StdTag;
+use liquid_conditions::read_values::read_values;
 use liquid_core::parser::TagToken;
 use liquid_core::{Error, Filter, TagTokenIter};
-use std::alloc::Global;
-use liquid_conditions::read_values::read_values;
 use liquid_cycle::groups::values_key;
 use liquid_cycle::{Cycle, Group};
+use std::alloc::Global;
 
 /// The separator between two values.
 static SEPARATORS: [&str; 1] = [","];

@@ -11,9 +11,9 @@ ghost use Rattle.liquid_std.specs.meaning.Blocks.{over_items, over_table, progre
 use crate::block_plugins::StdPlan;
 use crate::blocks::{StdBlock, StdProgress};
 use liquid_core::{Error, TagTokenIter};
-use std::alloc::{AllocError, Global};
 use liquid_loops::read_loop::read_loop;
 use liquid_loops::{LoopBlock, Picked, Table, rounds_over};
+use std::alloc::{AllocError, Global};
 
 /// Reads the start tag of a `for`.
 pub(crate) fn begin_for(alloc: Global, tokens: TagTokenIter<'_>) -> Result<StdPlan, Error>

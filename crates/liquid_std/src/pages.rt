@@ -9,8 +9,8 @@ use crate::tag_plugins::StdTags;
 use liquid_core::parser::PluginRegistry;
 use liquid_core::partials::PartialSource;
 use liquid_core::{Error, Object, ParseFilter, Sink, render_page_in};
-use std::alloc::Global;
 use liquid_cycle::Marks;
+use std::alloc::Global;
 
 /// Renders a page and writes the result: this text in the standard language with these filters, over these
 /// globals, with the partials of this source.

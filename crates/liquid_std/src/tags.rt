@@ -8,14 +8,14 @@ use crate::echo::echo;
 use crate::isolated::isolate;
 use liquid_core::parser::{Bytes, ChainMark, FilterChain, Meant};
 use liquid_core::{Discreet, Error, Filter, Renderable, Runtime, Turn};
-use liquid_tags::TagNode;
-use liquid_tags::tags::TagShape;
-use std::alloc::Global;
+use liquid_cycle::cycle::CycleShape;
+use liquid_cycle::{Cycle, HoldsMarks, cycle_turn};
 use liquid_includes::calls::PartialCallShape;
 use liquid_includes::rounds::CallRoundsShape;
 use liquid_includes::{CallRounds, PartialCall, call_rounds, call_turn};
-use liquid_cycle::cycle::CycleShape;
-use liquid_cycle::{Cycle, HoldsMarks, cycle_turn};
+use liquid_tags::TagNode;
+use liquid_tags::tags::TagShape;
+use std::alloc::Global;
 
 /// The node of a tag, over filters `X`.
 #[derive(Drop)]

@@ -1,13 +1,13 @@
 //! Texts that the filter `date` can't read.
 
 use crate::uses::{Origin, Uses};
+use filter_dates::moment_of;
 use liquid_grammar::{
     ChainStep, ChainText, Head, IndexStart, Literal, chain_step, next_index, value_head,
 };
 use liquid_scalar::Scalar;
 use liquid_value::{Object, Value};
 use std::alloc::{AllocError, Global};
-use filter_dates::moment_of;
 
 /// Adds the text that an expression prints as a date, if it is not one: a literal, or a text of the data. So many bytes
 /// follow the expression.

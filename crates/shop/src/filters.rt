@@ -3,8 +3,8 @@ ghost use Rattle.shop.specs.meaning.Filters.{quoted};
 
 use liquid_core::Error;
 use liquid_core::model::{Value, ValueRender};
-use std::alloc::Global;
 use liquid_filters::{Beside, CallArguments, FilterKind, FilterPlugin, FilterRow, StdKind};
+use std::alloc::Global;
 
 /// The filter `quoted`.
 #[derive(Debug, Clone, Copy)]

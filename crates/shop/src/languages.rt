@@ -8,9 +8,9 @@ use crate::stock::Stock;
 use crate::twice::Twice;
 use beside::Beside;
 use liquid_core::parser::{Language, PluginRegistry};
+use liquid_filters::filters_beside;
 use liquid_tags::{Blocks, Tags};
 use std::alloc::{AllocError, Global};
-use liquid_filters::filters_beside;
 use text_blocks::TextBlockPlugin;
 
 /// The tags of the library, and `badge`.

@@ -3,9 +3,9 @@ ghost use Rattle.std.specs.Prelude.{refl};
 ghost use Rattle.liquid_cycle.specs.meaning.Marks.{marks_of, no_marks};
 
 use liquid_core::Fresh;
-use std::alloc::{AllocError, Global};
 use liquid_cycle::marks::MarksShape;
 use liquid_cycle::{HoldsMarks, Marks};
+use std::alloc::{AllocError, Global};
 
 /// Marks, and the number of visits.
 #[derive(Drop)]

@@ -2,12 +2,12 @@
 use crate::desk::Desk;
 use crate::link::Link;
 use crate::twice::Twice;
+use liquid_beside::language_beside;
 use liquid_core::model::Object;
 use liquid_core::parser::{NoPlugin, PluginRegistry};
 use liquid_core::partials::InMemorySource;
 use liquid_core::{Error, TextSink, render_page_in};
 use std::alloc::Global;
-use liquid_beside::language_beside;
 use text_blocks::TextBlockPlugin;
 use text_tags::TextTagPlugin;
 

@@ -6,9 +6,9 @@ ghost use Rattle.liquid_filters.specs.meaning.Rows.{IsRow};
 ghost use Rattle.text_tags.specs.meaning.Sense.{TextTagSense, answer_sense, filter_sense};
 
 use liquid_error::Error;
+use liquid_filters::{CallArguments, FilterKind, FilterRow};
 use liquid_value::Value;
 use std::alloc::Global;
-use liquid_filters::{CallArguments, FilterKind, FilterRow};
 
 /// A kind of tag that writes a text in one turn.
 ///

@@ -7,13 +7,13 @@ ghost use Rattle.text_tags.specs.meaning.Nodes.{tag_turn, text_nodes};
 
 use crate::kind::{TagAnswer, TextTag};
 use liquid_error::Error;
+use liquid_filters::FilterCall;
+use liquid_filters::call::CallShape;
 use liquid_plugins::{Discreet, Filter, Meant, Renderable, Turn};
 use liquid_runtime::{Fresh, Runtime};
 use liquid_value::render::ValueRender;
 use liquid_value::{Value, ValueCow};
 use std::alloc::Global;
-use liquid_filters::FilterCall;
-use liquid_filters::call::CallShape;
 
 /// A text tag of a template, with the expressions of its arguments.
 #[derive(Drop)]

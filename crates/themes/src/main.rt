@@ -7,6 +7,8 @@ mod theme;
 
 use fault::Fault;
 use liquid_core::parser::Language;
+use liquid_cycle::Marks;
+use liquid_filters::{FilterPlugin, StdKind, filters};
 use liquid_pages::{PageFrame, PageOptions, Rendered, render_page};
 use liquid_std::{StdBlocks, StdTags, language};
 use std::alloc::Global;
@@ -14,8 +16,6 @@ use std::env;
 use std::io::{self, Write};
 use std::process::ExitCode;
 use std::rc::Rc;
-use liquid_filters::{FilterPlugin, StdKind, filters};
-use liquid_cycle::Marks;
 use theme::{Theme, partials_of, read_theme};
 
 /// The standard tags, blocks and filters.
