@@ -1,11 +1,18 @@
 -- The value of an expression if each value on the way exists.
-use Rattle.std.proofs.Common.{◌≡◌, ℕ, List, ◌∷◌, Option, Some, None, Ok, refl, ap, ◌∙◌, option_map}
+use Rattle.std.proofs.Common.{◌≡◌, ℕ, List, ◌∷◌, Option, Some, None, Ok, refl, ap, ◌∙◌, option_map, [], inr}
 use Rattle.std.specs.Prelude.{option_and_then}
 use Rattle.std.proofs.lemmas.Option.{option_and_then_some, none-some}
 use Rattle.liquid_scalar.specs.meaning.Scalar.{Scal, render_scalar, text}
 use Rattle.liquid_value.specs.meaning.Tree.{Tree, scalar}
 use Rattle.liquid_value.specs.meaning.Parts.{as_scalar}
-use Rattle.liquid_paths.specs.meaning.Step.{step}
+use Rattle.std.specs.Option.{option_or}
+use Rattle.liquid_value.specs.meaning.Members.{get_member, member_count}
+use Rattle.liquid_value.specs.meaning.View.{view}
+use Rattle.liquid_value.specs.declared.value.Value.{Value}
+use Rattle.liquid_value.specs.declared.cow.ValueCow.TheVariants.{Owned}
+use Rattle.liquid_runtime.specs.meaning.LoopNames.{counted, counted_members}
+use Rattle.liquid_runtime.specs.meaning.Made.{OfLoop, InPlaceOrMade}
+use Rattle.liquid_paths.specs.meaning.Step.{step, size_asked}
 use Rattle.liquid_paths.specs.meaning.Walk.{Path, walk}
 use Rattle.liquid_runtime.specs.meaning.View.{View}
 use Rattle.liquid_runtime.specs.meaning.NamesSeen.{lookup}
@@ -78,3 +85,19 @@ module _ {Reg : Type 0} where
   literals_lead v t u (index e es) h =
       option_and_then_some (λ part. literal_walk part es) (literal_part t e) u h (λ part is_part on.
       first_leads v t part e es is_part ∙ literals_lead v part u es on)
+
+-- a member of an object `forloop`
+pub member_walks : (place size : ℕ) (word : List ℕ) (t : Tree) → get_member word (counted_members place size) ≡ Some t
+    → literal_walk (counted place size) (index (literal (scalar (text word))) no_indexes) ≡ Some t
+member_walks place size word t is =
+    ap (λ o. option_and_then (λ part. literal_walk part no_indexes) (option_or o (size_asked word (member_count (counted_members place size))))) is
+
+pub member_made : (place size : ℕ) (word : List ℕ) (t : Tree) → get_member word (counted_members place size) ≡ Some t → OfLoop t
+member_made place size word t is =
+    (place, size, text word ∷ [], ap (λ o. option_and_then (λ u. walk u []) (option_or o (size_asked word (member_count (counted_members place size))))) is)
+
+pub made_of_loop : (value : Value) → OfLoop (view value) → InPlaceOrMade (Owned value)
+made_of_loop value is = inr is
+
+pub ruleset member_leads = (member_walks, member_made)
+

@@ -5,7 +5,7 @@ ghost use Rattle.liquid_scalar.specs.meaning.Scalar.{scal};
 ghost use Rattle.liquid_value.specs.meaning.Cow.{cow_view};
 ghost use Rattle.liquid_value.specs.meaning.Parts.{as_scalar};
 ghost use Rattle.liquid_value.specs.meaning.View.{view as tree_of};
-ghost use Rattle.liquid_paths.specs.meaning.InPlace.{InPlace};
+ghost use Rattle.liquid_runtime.specs.meaning.Made.{InPlaceOrMade};
 ghost use Rattle.liquid_paths.specs.meaning.PathOf.{index_of, path_of};
 ghost use Rattle.liquid_runtime.specs.meaning.InPlaceOrNil.{InPlaceOrNil};
 ghost use Rattle.liquid_plugins.specs.meaning.Evaluation.{Finds, evaluate, expected_scalar, try_evaluate, named_path, try_named_path};
@@ -47,7 +47,7 @@ impl Expression {
         runtime: &'c R,
     ) -> Result<Option<ValueCow<'c>>, AllocError>
         ensures gives { Finds cow_view result (try_evaluate (R.view runtime.now) (expression_of self.now)) }
-        ensures in_place { IfOk result (λ value. IfSome value InPlace) }
+        ensures in_place { IfOk result (λ value. IfSome value InPlaceOrMade) }
     {
         match borrow_value(alloc, self, runtime) {
             Some(value) => Ok(Some(value)),
@@ -125,7 +125,7 @@ fn try_evaluate<'c, R: Runtime>(
     runtime: &'c R,
 ) -> Result<Option<ValueCow<'c>>, AllocError>
     ensures gives { Finds cow_view result (try_evaluate (R.view runtime.now) (expression_of expression.now)) }
-    ensures in_place { IfOk result (λ value. IfSome value InPlace) }
+    ensures in_place { IfOk result (λ value. IfSome value InPlaceOrMade) }
 {
     match expression {
         Expression::Literal(value) => Ok(Some(ValueCow::Borrowed(value))),

@@ -9,8 +9,7 @@ ghost use Rattle.liquid_plugins.specs.meaning.Discreet.{Discreet};
 
 use crate::meant::Meant;
 use liquid_error::Error;
-use liquid_runtime::{Frame, Fresh, Runtime};
-use liquid_value::Object;
+use liquid_runtime::{Frame, Fresh, LoopFrame, Runtime};
 use std::alloc::Global;
 
 /// What a turn returns. A part is a number, from 0. A frame begins before it and ends after it. A trace, if one is
@@ -78,7 +77,7 @@ pub trait Renderable<V: Fresh>: Meant + Drop {
 
     /// Takes back the object of the frame of the turn that has ended, so that the next turn can write over it. The
     /// meaning of the progress does not change. A node that has no use for it keeps the default.
-    fn recycle(&self, progress: &mut Self::Progress, names: Object)
+    fn recycle(&self, progress: &mut Self::Progress, names: Box<LoopFrame>)
         ensures { Self.Progress.shape progress.new ≡ Self.Progress.shape progress.old }
     {
         drop(names)

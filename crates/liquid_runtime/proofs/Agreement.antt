@@ -9,7 +9,7 @@ use Rattle.liquid_paths.specs.meaning.Walk.{Path, walk, find_after}
 use Rattle.liquid_paths.proofs.Agreement.{ok_then-agrees, ok_or-agrees, find_after-agrees}
 use Rattle.liquid_value.specs.declared.cow.ValueCow.{ValueCow}
 use Rattle.liquid_value.specs.declared.cow.ValueCow.TheVariants.{Owned, Borrowed}
-use Rattle.liquid_paths.specs.meaning.InPlace.{InPlace}
+use Rattle.liquid_runtime.specs.meaning.Made.{InPlaceOrMade}
 use Rattle.liquid_runtime.specs.meaning.InPlaceOrNil.{InPlaceOrNil}
 use Rattle.liquid_runtime.specs.meaning.View.{View}
 use Rattle.liquid_runtime.specs.meaning.NamesSeen.{lookup, comes_from_seal}
@@ -27,7 +27,7 @@ lenient_answer : (r : Result Tree Refusal) → or_nil true r ≡ Ok (unwrap_or (
 lenient_answer (Ok t) = refl
 lenient_answer (Err refusal) = refl
 
-pub in_place_or_nil : (value : ValueCow) → InPlace value → InPlaceOrNil value
+pub in_place_or_nil : (value : ValueCow) → InPlaceOrMade value → InPlaceOrNil value
 in_place_or_nil (Borrowed value) is = tt
 in_place_or_nil (Owned value) is = inl is
 

@@ -5,3 +5,4 @@ pub mod FrameLaws
 pub mod FrameLookups
 pub mod SetLaws
 pub mod Agreement
+pub mod LoopLaws

@@ -1,6 +1,8 @@
 pub mod Maps
 pub mod View
+pub mod LoopNames
 pub mod NamesSeen
+pub mod Made
 pub mod InPlaceOrNil
 pub mod Lookup
 pub mod Roots

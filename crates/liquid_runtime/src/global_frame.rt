@@ -4,7 +4,8 @@ ghost use Rattle.liquid_runtime.specs.meaning.Frames.{begin_global, restored_by,
 ghost use Rattle.liquid_runtime.specs.steps.FrameViews.{assigned_view};
 ghost use Rattle.liquid_runtime.specs.meaning.Maps.{names_of};
 
-use crate::names::{add_names, set_name, value_of};
+use crate::names::{add_names, set_name, seen_of, value_of};
+use crate::loop_frame::Seen;
 use crate::registers::Registers;
 use crate::runtime::Runtime;
 use liquid_error::Error;
@@ -66,8 +67,8 @@ impl<P: Runtime> Runtime for GlobalFrame<P> {
     }
 
     #[tactic(auto, using(crate::proofs::FrameLookups::frame_lookups))]
-    fn try_get_name(&self, name: &str) -> Option<&Value> {
-        match value_of(&self.assigned, name) {
+    fn try_get_name(&self, name: &str) -> Option<Seen<'_>> {
+        match seen_of(&self.assigned, name) {
             Some(value) => Some(value),
             None => self.parent.try_get_name(name),
         }

@@ -5,7 +5,8 @@ ghost use Rattle.liquid_runtime.specs.meaning.Calls.{shaped};
 ghost use Rattle.liquid_runtime.specs.steps.FrameViews.{core_with, indexed_view};
 ghost use Rattle.liquid_runtime.specs.meaning.Maps.{names_of};
 
-use crate::names::{add_names, set_name, value_of};
+use crate::names::{add_names, set_name, seen_of, value_of};
+use crate::loop_frame::Seen;
 use crate::registers::{Fresh, Registers};
 use crate::runtime::Runtime;
 use crate::runtime_core::RuntimeCore;
@@ -67,8 +68,8 @@ impl<V: Fresh, S: Drop> Runtime for IndexFrame<V, S> {
     }
 
     #[tactic(auto, using(crate::proofs::FrameLookups::frame_lookups))]
-    fn try_get_name(&self, name: &str) -> Option<&Value> {
-        value_of(&self.variables, name)
+    fn try_get_name(&self, name: &str) -> Option<Seen<'_>> {
+        seen_of(&self.variables, name)
     }
 
     #[tactic(auto, using(crate::proofs::FrameLookups::frame_lookups))]

@@ -5,6 +5,8 @@ mod builder;
 mod global_frame;
 mod index_frame;
 mod laws;
+mod listed;
+mod loop_frame;
 pub mod names;
 mod registers;
 mod runtime;
@@ -22,8 +24,10 @@ pub use laws::{
     lenient_get_agrees_with_try_get, roots_are_the_names_seen, set_global_changes_no_other_name,
     set_index_changes_no_other_name, stack_names_first,
 };
+pub use listed::Listed;
+pub use loop_frame::{Counts, LoopFrame, LoopItem, RangeNumber, Seen};
 pub use registers::{Fresh, Interrupt, InterruptRegister, Registers};
-pub use runtime::Runtime;
+pub use runtime::{Runtime, find_seen};
 pub use runtime_core::RuntimeCore;
 pub use sandboxed_frame::SandboxedStackFrame;
 pub use scopes::{Frame, Scopes};

@@ -4,8 +4,10 @@ ghost use Rattle.std.specs.FinMap.{empty, get, insert};
 ghost use Rattle.liquid_error.specs.meaning.Told.{told};
 ghost use Rattle.liquid_value.specs.meaning.View.{view as tree_of};
 ghost use Rattle.liquid_runtime.specs.meaning.Maps.{names_of, over};
+ghost use Rattle.liquid_runtime.specs.meaning.LoopNames.{seen_tree};
 ghost use Rattle.liquid_runtime.specs.meaning.Roots.{NamesOf, NamesOver};
 
+use crate::loop_frame::Seen;
 use liquid_error::Error;
 use liquid_value::{Object, Value};
 use std::alloc::{AllocError, Global};
@@ -35,6 +37,16 @@ pub fn value_of<'o>(object: &'o Object, name: &str) -> Option<&'o Value>
     ensures { option_map (λ r. tree_of r.now) result ≡ get (names_of object.now) name.now }
 {
     object.get(name)
+}
+
+/// Returns the value of a name in an object, as it is found.
+pub fn seen_of<'o>(object: &'o Object, name: &str) -> Option<Seen<'o>>
+    ensures { option_map seen_tree result ≡ get (names_of object.now) name.now }
+{
+    match value_of(object, name) {
+        Some(value) => Some(Seen::Lent(value)),
+        None => None,
+    }
 }
 
 /// Gives a name a value, and returns its old one.

@@ -1,9 +1,11 @@
 //! The trait of what a template sees and changes while it is rendered.
-ghost use Rattle.std.specs.Prelude.{◌≡◌, ℕ, List, ◌∷◌, Option, Some, IsSome, IfOk, IfSome, OnOk, OnErr, string_bytes, option_map};
+ghost use Rattle.std.specs.Prelude.{◌≡◌, ℕ, List, ◌∷◌, Option, Some, IsSome, IfOk, IfSome, OnOk, OnErr, string_bytes, option_map, take, drop};
 ghost use Rattle.std.specs.Borrow.{sem, LendsIf};
 ghost use denote.Ref.{at_last};
 ghost use Rattle.liquid_error.specs.meaning.Told.{told, Gives};
-ghost use Rattle.liquid_paths.specs.meaning.InPlace.{InPlace};
+ghost use Rattle.liquid_paths.specs.meaning.Walk.{walk, find_after};
+ghost use Rattle.liquid_runtime.specs.meaning.LoopNames.{counted, seen_tree};
+ghost use Rattle.liquid_runtime.specs.meaning.Made.{InPlaceOrMade, OfLoop};
 ghost use Rattle.liquid_paths.specs.meaning.PathOf.{indexes_of};
 ghost use Rattle.liquid_value.specs.meaning.View.{view as tree_of};
 ghost use Rattle.liquid_value.specs.meaning.Cow.{cow_view};
@@ -16,6 +18,7 @@ ghost use Rattle.liquid_runtime.specs.meaning.Roots.{NamesOf};
 ghost use Rattle.liquid_runtime.specs.meaning.Sets.{old_global, put_global, old_index, put_index};
 ghost use Rattle.liquid_runtime.specs.meaning.View.{View};
 
+use crate::loop_frame::{Counts, Seen};
 use crate::registers::{Fresh, Registers};
 use liquid_error::Error;
 use liquid_paths::{find_after, try_find};
@@ -55,9 +58,9 @@ pub trait Runtime {
     fn name(&self) -> Option<&str>
         ensures { option_map (λ r. r.now) result ≡ (view self.now).name };
 
-    /// Returns the value of one name, borrowed in place, or `None` if the name has none.
-    fn try_get_name(&self, name: &str) -> Option<&Value>
-        ensures { option_map (λ r. tree_of r.now) result ≡ lookup (view self.now) name.now };
+    /// Returns the value of one name, borrowed in place or to be made, or `None` if the name has none.
+    fn try_get_name(&self, name: &str) -> Option<Seen<'_>>
+        ensures { option_map seen_tree result ≡ lookup (view self.now) name.now };
 
     /// Returns `true` if the name, if it has a value, is the own name of a sandboxed frame.
     fn seals(&self, name: &str) -> bool
@@ -77,7 +80,7 @@ pub trait Runtime {
         path: &[ScalarCow<'_>],
     ) -> Result<Option<ValueCow<'_>>, AllocError>
         ensures gives { IfOk result (λ value. option_map cow_view value ≡ try_path (view self.now) (indexes_of path.now)) }
-        ensures in_place { IfOk result (λ value. IfSome value InPlace) }
+        ensures in_place { IfOk result (λ value. IfSome value InPlaceOrMade) }
     {
         match path.split_first() {
             None => Ok(None),
@@ -85,7 +88,7 @@ pub trait Runtime {
                 let name = first.to_kstr(alloc)?;
                 match self.try_get_name(name.as_str()) {
                     None => Ok(None),
-                    Some(value) => try_find(alloc, value, rest),
+                    Some(seen) => find_seen(alloc, seen, rest),
                 }
             }
         }
@@ -115,7 +118,7 @@ pub trait Runtime {
                 Err(_) => Err(Error::Memory),
                 Ok(name) => match self.try_get_name(name.as_str()) {
                     None => Err(unknown_variable(alloc, name.as_str())),
-                    Some(value) => match find_after(alloc, 1, value, path) {
+                    Some(seen) => match find_after_seen(alloc, seen, path) {
                         Ok(found) => Ok(found),
                         Err(error) => {
                             if !error.is_memory() && self.seals(name.as_str()) {
@@ -207,7 +210,7 @@ impl<R: Runtime> Runtime for &mut R {
         (**self).name()
     }
 
-    fn try_get_name(&self, name: &str) -> Option<&Value> {
+    fn try_get_name(&self, name: &str) -> Option<Seen<'_>> {
         (**self).try_get_name(name)
     }
 
@@ -250,6 +253,71 @@ impl<R: Runtime> Runtime for &mut R {
     fn is_lenient(&self) -> bool {
         (**self).is_lenient()
     }
+}
+
+/// Returns the value at the end of a path from what was found.
+#[tactic(auto, using(crate::proofs::LoopLaws::made))]
+pub fn find_seen<'v>(
+    alloc: Global,
+    seen: Seen<'v>,
+    path: &[ScalarCow<'_>],
+) -> Result<Option<ValueCow<'v>>, AllocError>
+    ensures gives { IfOk result (λ found. option_map cow_view found ≡ walk (seen_tree seen.entry) (indexes_of path.now)) }
+    ensures in_place { IfOk result (λ found. IfSome found InPlaceOrMade) }
+{
+    match seen {
+        Seen::Lent(value) => try_find(alloc, value, path),
+        Seen::Loop(counts) => match loop_part(alloc, counts, path)? {
+            Some(part) => Ok(Some(ValueCow::Owned(part))),
+            None => Ok(None),
+        },
+    }
+}
+
+/// Returns what a path leads to from an object `forloop`.
+fn loop_part(
+    alloc: Global,
+    counts: Counts,
+    path: &[ScalarCow<'_>],
+) -> Result<Option<Value>, AllocError>
+    ensures { IfOk result (λ part. option_map tree_of part ≡ walk (counted counts.place counts.size) (indexes_of path.now)) }
+{
+    let object = counts.to_value(alloc)?;
+    match try_find(alloc, &object, path)? {
+        Some(found) => Ok(Some(found.into_owned()?)),
+        None => Ok(None),
+    }
+}
+
+/// Returns the value of a path whose first index is the name of what was found, as by `find_after`.
+#[tactic(auto, using(crate::proofs::LoopLaws::made))]
+fn find_after_seen<'v>(
+    alloc: Global,
+    seen: Seen<'v>,
+    path: &[ScalarCow<'_>],
+) -> Result<ValueCow<'v>, Error>
+    ensures gives { Gives cow_view result (find_after (indexes_of (take 1 path.now)) (seen_tree seen.entry) (indexes_of (drop 1 path.now))) }
+    ensures in_place { IfOk result InPlaceOrMade }
+{
+    match seen {
+        Seen::Lent(value) => find_after(alloc, 1, value, path),
+        Seen::Loop(counts) => {
+            let part = loop_part_after(alloc, counts, path)?;
+            Ok(ValueCow::Owned(part))
+        }
+    }
+}
+
+/// Returns what a path leads to from an object `forloop`, whose name is its first index.
+#[tactic(auto, using(crate::proofs::LoopLaws::leads_from))]
+fn loop_part_after(alloc: Global, counts: Counts, path: &[ScalarCow<'_>]) -> Result<Value, Error>
+    ensures gives { Gives tree_of result
+        (find_after (indexes_of (take 1 path.now)) (counted counts.place counts.size) (indexes_of (drop 1 path.now))) }
+    ensures of_loop { IfOk result (λ part. OfLoop (tree_of part)) }
+{
+    let object = counts.to_value(alloc)?;
+    let found = find_after(alloc, 1, &object, path)?;
+    Ok(found.into_owned()?)
 }
 
 /// Returns the error for a name that has no value.

@@ -4,6 +4,7 @@ ghost use Rattle.liquid_runtime.specs.meaning.Frames.{core_view, leniently};
 ghost use Rattle.liquid_runtime.specs.meaning.Calls.{shaped};
 ghost use Rattle.liquid_runtime.specs.steps.FrameViews.{core_with};
 
+use crate::loop_frame::Seen;
 use crate::registers::{Fresh, Registers};
 use crate::runtime::Runtime;
 use liquid_error::Error;
@@ -93,7 +94,7 @@ impl<V: Fresh, S: Drop> Runtime for RuntimeCore<V, S> {
     }
 
     #[tactic(auto, using(crate::proofs::FrameLookups::frame_lookups))]
-    fn try_get_name(&self, _name: &str) -> Option<&Value> {
+    fn try_get_name(&self, _name: &str) -> Option<Seen<'_>> {
         None
     }
 

@@ -5,7 +5,8 @@ ghost use Rattle.liquid_runtime.specs.meaning.Frames.{begin_sandboxed, restored_
 ghost use Rattle.liquid_runtime.specs.steps.FrameViews.{sandboxed_with};
 ghost use Rattle.liquid_runtime.specs.meaning.Maps.{names_of};
 
-use crate::names::{add_names, own_name, value_of};
+use crate::names::{add_names, own_name, seen_of, value_of};
+use crate::loop_frame::Seen;
 use crate::registers::Registers;
 use crate::runtime::Runtime;
 use liquid_error::Error;
@@ -79,8 +80,8 @@ impl<P: Runtime> Runtime for SandboxedStackFrame<P> {
     }
 
     #[tactic(auto, using(crate::proofs::FrameLookups::frame_lookups))]
-    fn try_get_name(&self, name: &str) -> Option<&Value> {
-        value_of(&self.names, name)
+    fn try_get_name(&self, name: &str) -> Option<Seen<'_>> {
+        seen_of(&self.names, name)
     }
 
     #[tactic(auto, using(crate::proofs::FrameLookups::frame_lookups))]

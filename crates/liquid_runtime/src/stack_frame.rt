@@ -4,7 +4,8 @@ ghost use Rattle.liquid_runtime.specs.meaning.Calls.{named};
 ghost use Rattle.liquid_runtime.specs.meaning.Frames.{begin_stack, restored_by, stack_frame};
 ghost use Rattle.liquid_runtime.specs.meaning.Maps.{names_of};
 
-use crate::names::{add_names, own_name, value_of};
+use crate::names::{add_names, own_name, seen_of, value_of};
+use crate::loop_frame::Seen;
 use crate::registers::Registers;
 use crate::runtime::Runtime;
 use liquid_error::Error;
@@ -87,8 +88,8 @@ impl<P: Runtime> Runtime for StackFrame<P> {
     }
 
     #[tactic(auto, using(crate::proofs::FrameLookups::frame_lookups))]
-    fn try_get_name(&self, name: &str) -> Option<&Value> {
-        match value_of(&self.names, name) {
+    fn try_get_name(&self, name: &str) -> Option<Seen<'_>> {
+        match seen_of(&self.names, name) {
             Some(value) => Some(value),
             None => self.parent.try_get_name(name),
         }

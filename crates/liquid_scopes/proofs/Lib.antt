@@ -8,3 +8,4 @@ pub mod Sealed
 pub mod FlatLaws
 pub mod GivesLaws
 pub mod Alike
+pub mod LoopPlaces

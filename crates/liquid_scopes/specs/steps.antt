@@ -2,3 +2,4 @@ pub mod Layers
 pub mod LinkLayers
 pub mod NamePlaces
 pub mod Standing
+pub mod Renewals

@@ -1,6 +1,6 @@
 //! Scopes whose names are looked up frame by frame.
 ghost use Rattle.std.specs.Prelude.{◌≡◌, ◌∷◌, option_map};
-ghost use Rattle.liquid_value.specs.meaning.View.{view as tree_of};
+ghost use Rattle.liquid_runtime.specs.meaning.LoopNames.{seen_tree};
 ghost use Rattle.liquid_runtime.specs.meaning.View.{View};
 ghost use Rattle.liquid_runtime.specs.meaning.Frames.{scope_base};
 ghost use Rattle.liquid_runtime.specs.meaning.NamesSeen.{comes_from_seal};
@@ -10,9 +10,9 @@ ghost use Rattle.liquid_scopes.specs.steps.LinkLayers.{layer_of, layers_of, view
 use crate::link::{Link, closing, opening};
 use crate::links::{name_over, roots_over};
 use liquid_error::Error;
-use liquid_runtime::names::value_of;
-use liquid_runtime::{Frame, Fresh, Registers, Runtime, Scopes};
-use liquid_value::{Object, Value};
+use liquid_runtime::names::{seen_of, value_of};
+use liquid_runtime::{Frame, Fresh, LoopFrame, Registers, Runtime, Scopes, Seen};
+use liquid_value::Value;
 use std::alloc::{AllocError, Global};
 use std::collections::BTreeSet;
 
@@ -59,7 +59,7 @@ impl<R: Runtime> Runtime for ChainedScopes<R> {
         name_over(self.links.as_slice(), self.base.name())
     }
 
-    fn try_get_name(&self, name: &str) -> Option<&Value> {
+    fn try_get_name(&self, name: &str) -> Option<Seen<'_>> {
         let mut found = self.base.try_get_name(name);
         for link in &self.links {
             found = link.found(name, found);
@@ -131,10 +131,10 @@ impl<R: Runtime> Scopes for ChainedScopes<R> {
     }
 
     fn pop(&mut self) {
-        drop(self.pop_names());
+        drop(self.pop_loop());
     }
 
-    fn pop_names(&mut self) -> Option<Object> {
+    fn pop_loop(&mut self) -> Option<Box<LoopFrame>> {
         match self.links.pop() {
             Some(link) => closing(&mut self.base, link),
             None => None,
@@ -158,24 +158,28 @@ impl<R: Runtime> Scopes for ChainedScopes<R> {
 // A walk over all links looks in each of them, so only chained scopes have one.
 impl<V> Link<V> {
     #[tactic(auto, using(liquid_runtime::proofs::FrameLookups::own_first))]
-    fn found<'a>(&'a self, name: &str, below: Option<&'a Value>) -> Option<&'a Value>
-        ensures { option_map (λ r. tree_of r.now) result
-            ≡ layer_found (layer_of self.now) name.now (option_map (λ r. tree_of r.now) below.entry) }
+    fn found<'a>(&'a self, name: &str, below: Option<Seen<'a>>) -> Option<Seen<'a>>
+        ensures { option_map seen_tree result
+            ≡ layer_found (layer_of self.now) name.now (option_map seen_tree below.entry) }
     {
         match self {
             Link::None => below,
-            Link::Stack(data, _) => match value_of(data, name) {
-                Some(value) => Some(value),
+            Link::Stack(data, _) => match seen_of(data, name) {
+                Some(seen) => Some(seen),
                 None => below,
             },
-            Link::Global(assigned) => match value_of(assigned, name) {
-                Some(value) => Some(value),
+            Link::Loop(frame) => match frame.look(name) {
+                Some(seen) => Some(seen),
                 None => below,
             },
-            Link::Sandboxed(data, _, _) => value_of(data, name),
-            Link::Isolated(data, assigned, _, _) => match value_of(assigned, name) {
-                Some(value) => Some(value),
-                None => value_of(data, name),
+            Link::Global(assigned) => match seen_of(assigned, name) {
+                Some(seen) => Some(seen),
+                None => below,
+            },
+            Link::Sandboxed(data, _, _) => seen_of(data, name),
+            Link::Isolated(data, assigned, _, _) => match seen_of(assigned, name) {
+                Some(seen) => Some(seen),
+                None => seen_of(data, name),
             },
         }
     }
@@ -187,6 +191,10 @@ impl<V> Link<V> {
         match self {
             Link::None => below,
             Link::Stack(data, _) => match value_of(data, name) {
+                Some(_) => false,
+                None => below,
+            },
+            Link::Loop(frame) => match frame.look(name) {
                 Some(_) => false,
                 None => below,
             },

@@ -1,6 +1,6 @@
 //! Scopes that find a name in at most two frame lookups.
 ghost use Rattle.std.specs.Prelude.{◌≡◌, ◌≤◌, ◌<◌, ◌+◌, ◌^◌, ◌∷◌, ℕ, IfOk, IfSome, option_map};
-ghost use Rattle.liquid_paths.specs.meaning.InPlace.{InPlace};
+ghost use Rattle.liquid_runtime.specs.meaning.Made.{InPlaceOrMade};
 ghost use Rattle.liquid_paths.specs.meaning.PathOf.{indexes_of};
 ghost use Rattle.liquid_value.specs.meaning.Cow.{cow_view};
 ghost use Rattle.liquid_runtime.specs.meaning.Frames.{scope_base};
@@ -11,10 +11,9 @@ ghost use Rattle.liquid_scopes.specs.steps.LinkLayers.{layers_of};
 use crate::link::{closing, opening};
 use crate::table::{Table, look_up};
 use liquid_error::Error;
-use liquid_paths::try_find;
-use liquid_runtime::{Frame, Registers, Runtime, Scopes};
+use liquid_runtime::{Counts, Frame, LoopFrame, RangeNumber, Registers, Runtime, Scopes, Seen, find_seen};
 use liquid_scalar::ScalarCow;
-use liquid_value::{Object, Value, ValueCow};
+use liquid_value::{Value, ValueCow};
 use std::alloc::{AllocError, Global};
 use std::collections::BTreeSet;
 use std::marker::Model;
@@ -79,6 +78,7 @@ impl Count {
 /// A name is found in at most two frame lookups, however many frames are open. The last frame that can hold names isn't
 /// listed in the index until another such frame is opened over it, and is searched itself. The other lookup is at the
 /// name's last place by the index, or in the base.
+#[derive(Drop)]
 pub struct FlatScopes<R: Runtime> {
     alloc: Global,
     base: R,
@@ -99,7 +99,7 @@ impl<R: Runtime> FlatScopes<R> {
         requires { looks.old + 2 < 2 ^ 64 }
         ensures gives { IfOk result (λ value. option_map cow_view value
             ≡ try_path (⟦<FlatScopes<R> as Runtime>⟧.view self.now) (indexes_of path.now)) }
-        ensures in_place { IfOk result (λ value. IfSome value InPlace) }
+        ensures in_place { IfOk result (λ value. IfSome value InPlaceOrMade) }
         ensures looks { looks.new ≤ looks.old + 2 }
         ensures counts { looks.old ≤ looks.new }
         ensures finds { IfOk result (λ found. IfSome found (λ value. looks.old + 1 ≤ looks.new)) }
@@ -110,7 +110,7 @@ impl<R: Runtime> FlatScopes<R> {
                 let name = first.to_kstr(alloc)?;
                 match look_up(&self.table, &self.base, name.as_str(), &mut looks.count) {
                     None => Ok(None),
-                    Some(value) => try_find(alloc, value, rest),
+                    Some(seen) => find_seen(alloc, seen, rest),
                 }
             }
         }
@@ -138,7 +138,7 @@ impl<R: Runtime> Runtime for FlatScopes<R> {
         self.table.name_over(self.base.name())
     }
 
-    fn try_get_name(&self, name: &str) -> Option<&Value> {
+    fn try_get_name(&self, name: &str) -> Option<Seen<'_>> {
         let mut looks = Looks::new();
         look_up(&self.table, &self.base, name, &mut looks.count)
     }
@@ -222,14 +222,18 @@ impl<R: Runtime> Scopes for FlatScopes<R> {
     }
 
     fn pop(&mut self) {
-        drop(self.pop_names());
+        drop(self.pop_loop());
     }
 
-    fn pop_names(&mut self) -> Option<Object> {
+    fn pop_loop(&mut self) -> Option<Box<LoopFrame>> {
         match self.table.take() {
             Some(link) => closing(&mut self.base, link),
             None => None,
         }
+    }
+
+    fn next_number(&mut self, name: &str, number: RangeNumber, counts: Counts) -> bool {
+        self.table.renew(name, number, counts)
     }
 
     fn frames(&self) -> usize {

@@ -13,6 +13,8 @@ ghost use Rattle.std.specs.Prelude.{
   ◌&&◌,
   bytes_eq,
   IfOk,
+  IfNone,
+  IfSome,
   OnOk,
   OnErr,
   IfErr,
@@ -27,6 +29,10 @@ ghost use Rattle.liquid_value.specs.meaning.View.{view as tree_of};
 ghost use Rattle.liquid_runtime.specs.meaning.View.{View};
 ghost use Rattle.liquid_runtime.specs.meaning.Maps.{names_of, over};
 ghost use Rattle.liquid_runtime.specs.meaning.Roots.{NamesOf};
+ghost use Rattle.liquid_runtime.specs.meaning.LoopNames.{counted, loop_names, names_of_item, seen_tree};
+ghost use Rattle.liquid_scalar.specs.meaning.Scalar.{integer};
+ghost use Rattle.liquid_value.specs.meaning.Tree.{scalar};
+ghost use Rattle.liquid_scopes.specs.steps.Renewals.{Renews};
 ghost use Rattle.liquid_runtime.specs.meaning.Frames.{beginning, restored_by, ending};
 ghost use Rattle.liquid_runtime.specs.meaning.Calls.{frame_of, registers_of, with_registers};
 ghost use Rattle.liquid_scopes.specs.steps.Layers.{layer_name, layer_view, layer_restores, is_global, assigned, assigning, LayerNames};
@@ -36,8 +42,8 @@ ghost use Rattle.liquid_scopes.specs.steps.Standing.{own, is_sandboxed, seals_ow
 use crate::flat_scopes::Count;
 use crate::index::Index;
 use liquid_error::Error;
-use liquid_runtime::names::{add_names, only_names, own_name, set_name, value_of};
-use liquid_runtime::{Frame, Registers, Runtime};
+use liquid_runtime::names::{add_names, only_names, own_name, seen_of, set_name, value_of};
+use liquid_runtime::{Counts, Frame, LoopFrame, RangeNumber, Registers, Runtime, Seen};
 use liquid_value::{Object, Value};
 use std::alloc::{AllocError, Global};
 use std::collections::BTreeSet;
@@ -48,6 +54,7 @@ use std::mem;
 pub(crate) enum Link<V> {
     None,
     Stack(Object, Option<String>),
+    Loop(Box<LoopFrame>),
     Global(Object),
     // With the registers that are given back when it ends.
     Sandboxed(Object, Option<String>, Registers<V>),
@@ -67,6 +74,7 @@ impl<V> Link<V> {
         match self {
             Link::None => Ok(below),
             Link::Stack(data, _) => add_names(data, below),
+            Link::Loop(frame) => frame.add_names(alloc, below),
             Link::Global(assigned) => add_names(assigned, below),
             Link::Sandboxed(data, _, _) => only_names(alloc, data),
             Link::Isolated(data, assigned, _, _) => both_names(alloc, data, assigned),
@@ -82,7 +90,7 @@ impl<V> Link<V> {
                 Some(name) => Some(name),
                 None => below,
             },
-            Link::Global(_) => below,
+            Link::Loop(_) | Link::Global(_) => below,
             Link::Sandboxed(_, name, _) | Link::Isolated(_, _, name, _) => match own_name(name) {
                 Some(name) => Some(name),
                 None => below,
@@ -91,18 +99,19 @@ impl<V> Link<V> {
     }
 
     // Returns the value that the frame itself gives a name. This is one frame lookup.
-    pub(crate) fn look(&self, name: &str, count: &mut Count) -> Option<&Value>
+    pub(crate) fn look(&self, name: &str, count: &mut Count) -> Option<Seen<'_>>
         requires { count.old.looks + 1 < 2 ^ 64 }
-        ensures value { option_map (λ r. tree_of r.now) result ≡ own (layer_of self.now) name.now }
+        ensures value { option_map seen_tree result ≡ own (layer_of self.now) name.now }
         ensures looks { count.new.looks ≡ count.old.looks + 1 }
     {
         count.tick();
         match self {
             Link::None => None,
             Link::Stack(data, _) | Link::Global(data) | Link::Sandboxed(data, _, _) => {
-                value_of(data, name)
+                seen_of(data, name)
             }
-            Link::Isolated(data, assigned, _, _) => first_value(assigned, data, name),
+            Link::Loop(frame) => frame.look(name),
+            Link::Isolated(data, assigned, _, _) => first_seen(assigned, data, name),
         }
     }
 
@@ -126,7 +135,7 @@ impl<V> Link<V> {
     {
         match self {
             Link::None => false,
-            Link::Global(_) | Link::Isolated(_, _, _, _) => true,
+            Link::Loop(_) | Link::Global(_) | Link::Isolated(_, _, _, _) => true,
             Link::Stack(data, _) | Link::Sandboxed(data, _, _) => has_names(data),
         }
     }
@@ -143,6 +152,7 @@ impl<V> Link<V> {
             Link::Stack(data, _) | Link::Global(data) | Link::Sandboxed(data, _, _) => {
                 index.note_all(alloc, data, place)
             }
+            Link::Loop(frame) => note_loop(index, alloc, &**frame, place),
             Link::Isolated(data, assigned, _, _) => {
                 note_both(index, alloc, data, assigned, place)
             }
@@ -160,6 +170,7 @@ impl<V> Link<V> {
             Link::Stack(data, _) | Link::Global(data) | Link::Sandboxed(data, _, _) => {
                 index.forget_all(data, place);
             }
+            Link::Loop(frame) => forget_loop(index, &**frame, place),
             Link::Isolated(data, assigned, _, _) => forget_both(index, data, assigned, place),
         }
     }
@@ -182,7 +193,21 @@ impl<V> Link<V> {
             Link::Stack(data, _) | Link::Global(data) | Link::Sandboxed(data, _, _) => {
                 value_of(data, name).is_some()
             }
+            Link::Loop(frame) => frame.look(name).is_some(),
             Link::Isolated(data, assigned, _, _) => first_value(assigned, data, name).is_some(),
+        }
+    }
+
+    // Writes the next number of a loop of this name over the last one, if the link is of such a loop.
+    #[inline(always)]
+    pub(crate) fn renew(&mut self, name: &str, number: RangeNumber, counts: Counts) -> bool
+        ensures renews { result ≡ true → Renews (names_of_item name.now (counted counts.place counts.size) (scalar (integer number.value)))
+            (layer_of self.old) (layer_of self.new) }
+        ensures unchanged { result ≡ false → layer_of self.new ≡ layer_of self.old }
+    {
+        match self {
+            Link::Loop(frame) => frame.renew_number(name, number, counts),
+            _ => false,
         }
     }
 
@@ -192,6 +217,7 @@ impl<V> Link<V> {
         match self {
             Link::None => false,
             Link::Stack(_, _) => false,
+            Link::Loop(_) => false,
             Link::Global(_) => false,
             Link::Sandboxed(_, _, _) | Link::Isolated(_, _, _, _) => true,
         }
@@ -203,6 +229,7 @@ impl<V> Link<V> {
         match self {
             Link::None => false,
             Link::Stack(_, _) => false,
+            Link::Loop(_) => false,
             Link::Global(_) | Link::Isolated(_, _, _, _) => true,
             Link::Sandboxed(_, _, _) => false,
         }
@@ -243,6 +270,38 @@ fn first_value<'a>(first: &'a Object, second: &'a Object, name: &str) -> Option<
         Some(value) => Some(value),
         None => value_of(second, name),
     }
+}
+
+// Does the same with what is found.
+fn first_seen<'a>(first: &'a Object, second: &'a Object, name: &str) -> Option<Seen<'a>>
+    ensures { option_map seen_tree result ≡ option_or (get (names_of first.now) name.now) (get (names_of second.now) name.now) }
+{
+    match first_value(first, second, name) {
+        Some(value) => Some(Seen::Lent(value)),
+        None => None,
+    }
+}
+
+// Records that the frame of a loop gives its two names a value. If memory runs out, one of them may be recorded.
+fn note_loop(
+    index: &mut Index,
+    alloc: Global,
+    frame: &LoopFrame,
+    place: usize,
+) -> Result<(), Error>
+    ensures noted { OnOk result (Noted (λ q. is_some (get (loop_names frame.now) q)) place index.old.places index.new.places) }
+    ensures partly { PartlyNoted (λ q. is_some (get (loop_names frame.now) q)) place index.old.places index.new.places }
+{
+    index.note(alloc, "forloop", place)?;
+    index.note(alloc, frame.own_name(), place)
+}
+
+// Records that the frame of a loop no longer gives its two names a value.
+fn forget_loop(index: &mut Index, frame: &LoopFrame, place: usize)
+    ensures { Forgotten (λ q. is_some (get (loop_names frame.now) q)) place index.old.places index.new.places }
+{
+    index.forget("forloop", place);
+    index.forget(frame.own_name(), place);
 }
 
 // Records that the frame at this place gives the names of both objects a value. If memory runs out, some of them are
@@ -296,6 +355,7 @@ pub(crate) fn opening<R: Runtime>(alloc: Global, base: &mut R, frame: Frame) -> 
     match frame {
         Frame::None => Link::None,
         Frame::Stack(d, n) => Link::Stack(d, n),
+        Frame::Loop(frame) => Link::Loop(frame),
         Frame::Global => Link::Global(Object::new(alloc)),
         Frame::Sandboxed(d, n) => {
             let saved = mem::replace(base.registers_mut(), Registers::default());
@@ -308,9 +368,9 @@ pub(crate) fn opening<R: Runtime>(alloc: Global, base: &mut R, frame: Frame) -> 
     }
 }
 
-// Gives back to the base what a link's frame gives back when it ends, and returns the names of a stack frame.
+// Gives back to the base what a link's frame gives back when it ends, and returns the frame of a loop.
 #[inline(always)]
-pub(crate) fn closing<R: Runtime>(base: &mut R, link: Link<R::Register>) -> Option<Object>
+pub(crate) fn closing<R: Runtime>(base: &mut R, link: Link<R::Register>) -> Option<Box<LoopFrame>>
     ensures registers { R.view base.new ≡ with_registers (registers_of (R.view base.new)) (R.view base.old) }
     ensures ends { (v : View R.Register.Shape) → registers_of v ≡ registers_of (R.view base.old)
         → with_registers (registers_of (R.view base.new)) v ≡ ending (layer_restores R.Register.shape (layer_of link) v)
@@ -321,7 +381,8 @@ pub(crate) fn closing<R: Runtime>(base: &mut R, link: Link<R::Register>) -> Opti
 {
     match link {
         Link::None => None,
-        Link::Stack(names, _name) => Some(names),
+        Link::Stack(_names, _name) => None,
+        Link::Loop(frame) => Some(frame),
         Link::Global(_assigned) => None,
         Link::Sandboxed(_names, _name, saved) => {
             *base.registers_mut() = saved;

@@ -8,6 +8,10 @@ ghost use Rattle.liquid_runtime.specs.meaning.View.{View};
 ghost use Rattle.liquid_runtime.specs.meaning.Frames.{Restore};
 ghost use Rattle.liquid_runtime.specs.meaning.NamesSeen.{lookup, names_seen, comes_from_seal};
 ghost use Rattle.liquid_runtime.specs.meaning.Roots.{NamesOf};
+ghost use Rattle.liquid_runtime.specs.meaning.LoopNames.{counted, names_of_item, seen_tree};
+ghost use Rattle.liquid_scalar.specs.meaning.Scalar.{integer};
+ghost use Rattle.liquid_value.specs.meaning.Tree.{scalar};
+ghost use Rattle.liquid_scopes.specs.steps.Renewals.{RenewsLast};
 ghost use Rattle.liquid_runtime.specs.meaning.Sets.{old_global, put_global};
 ghost use Rattle.liquid_scopes.specs.steps.Layers.{restoring, is_global, LastGlobal, GlobalAt};
 ghost use Rattle.liquid_scopes.specs.steps.LinkLayers.{layer_of, layers_of, view_over};
@@ -18,10 +22,10 @@ ghost use Rattle.liquid_scopes.specs.steps.NamePlaces.{TopOf};
 use crate::flat_scopes::Count;
 use crate::index::Index;
 use crate::link::Link;
-use crate::links::{forget_absent, name_over, put, roots_over};
+use crate::links::{forget_absent, name_over, put, renew_last, roots_over};
 use crate::place::{drop_place, is_at, is_under, keep_place, last_of};
 use liquid_error::Error;
-use liquid_runtime::{Fresh, Runtime};
+use liquid_runtime::{Counts, Fresh, RangeNumber, Runtime, Seen};
 use liquid_value::Value;
 use std::alloc::{AllocError, Global};
 use std::collections::BTreeSet;
@@ -171,9 +175,9 @@ impl<V: Fresh> Table<V> {
 
     // Returns the value that the frame at this place itself gives the name. This is one frame lookup, if there is a
     // frame.
-    fn look_at(&self, place: usize, name: &str, count: &mut Count) -> Option<&Value>
+    fn look_at(&self, place: usize, name: &str, count: &mut Count) -> Option<Seen<'_>>
         requires { count.old.looks + 1 < 2 ^ 64 }
-        ensures value { option_map (λ r. tree_of r.now) result ≡ own_at place (layers_of self.now.links.items) name.now }
+        ensures value { option_map seen_tree result ≡ own_at place (layers_of self.now.links.items) name.now }
         ensures looks { count.new.looks ≤ count.old.looks + 1 }
         ensures counts { count.old.looks ≤ count.new.looks }
         ensures finds { IfSome result (λ value. count.old.looks + 1 ≤ count.new.looks) }
@@ -287,6 +291,16 @@ impl<V: Fresh> Table<V> {
         }
     }
 
+    // Writes the next number of a loop of this name over the last one, if the last frame is of such a loop.
+    #[inline(always)]
+    pub(crate) fn renew(&mut self, name: &str, number: RangeNumber, counts: Counts) -> bool
+        ensures renews { result ≡ true → RenewsLast (names_of_item name.now (counted counts.place counts.size) (scalar (integer number.value)))
+            (layers_of self.old.links.items) (layers_of self.new.links.items) }
+        ensures unchanged { result ≡ false → layers_of self.new.links.items ≡ layers_of self.old.links.items }
+    {
+        renew_last(&mut self.links, name, number, counts)
+    }
+
     // Gives a name a value in the global frame at this place.
     pub(crate) fn assign(
         &mut self,
@@ -326,9 +340,9 @@ pub(crate) fn look_up<'a, R: Runtime>(
     base: &'a R,
     name: &str,
     count: &mut Count,
-) -> Option<&'a Value>
+) -> Option<Seen<'a>>
     requires { count.old.looks + 2 < 2 ^ 64 }
-    ensures value { option_map (λ r. tree_of r.now) result ≡ lookup (view_over (R.view base.now) table.now.links.items) name.now }
+    ensures value { option_map seen_tree result ≡ lookup (view_over (R.view base.now) table.now.links.items) name.now }
     ensures looks { count.new.looks ≤ count.old.looks + 2 }
     ensures counts { count.old.looks ≤ count.new.looks }
     ensures finds { IfSome result (λ value. count.old.looks + 1 ≤ count.new.looks) }
@@ -336,7 +350,7 @@ pub(crate) fn look_up<'a, R: Runtime>(
     let listed = table.listed(name);
     match table.unlisted_over(listed) {
         Some(place) => match table.look_at(place, name, count) {
-            Some(value) => Some(value),
+            Some(seen) => Some(seen),
             None => look_listed(table, base, listed, name, count),
         },
         None => look_listed(table, base, listed, name, count),
@@ -351,9 +365,9 @@ fn look_listed<'a, R: Runtime>(
     listed: Option<usize>,
     name: &str,
     count: &mut Count,
-) -> Option<&'a Value>
+) -> Option<Seen<'a>>
     requires { count.old.looks + 1 < 2 ^ 64 }
-    ensures value { option_map (λ r. tree_of r.now) result
+    ensures value { option_map seen_tree result
         ≡ two_looks listed (last_seal (layers_of table.now.links.items))
         (own_at_top listed (layers_of table.now.links.items) name.now) (lookup (R.view base.now) name.now) }
     ensures looks { count.new.looks ≤ count.old.looks + 1 }

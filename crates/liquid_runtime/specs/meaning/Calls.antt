@@ -4,6 +4,7 @@ use Rattle.std.specs.Borrow.{MutBor, Fml, RattleType, Lends}
 use Rattle.std.specs.FinMap.{empty, get}
 use Rattle.liquid_value.specs.meaning.Tree.{Tree}
 use Rattle.liquid_runtime.specs.meaning.Maps.{Names, names_of}
+use Rattle.liquid_runtime.specs.meaning.LoopNames.{loop_names}
 use Rattle.liquid_runtime.specs.meaning.View.{View}
 use Rattle.liquid_runtime.specs.meaning.Frames.{FrameShape, no_frame, stack_frame, sandboxed_frame, isolated_frame, global_frame}
 use Rattle.liquid_runtime.specs.declared.scopes.Frame.{Frame}
@@ -17,6 +18,7 @@ use Rattle.liquid_runtime.specs.contracts.registers.Registers as registers
 abbrev pub frame_of : Frame → FrameShape
 frame_of frame.None = no_frame
 frame_of (frame.Stack d n) = stack_frame (names_of d) (option_map (λ s. string_bytes s) n)
+frame_of (frame.Loop l) = stack_frame (loop_names l.value) None
 frame_of (frame.Sandboxed d n) = sandboxed_frame (names_of d) (option_map (λ s. string_bytes s) n)
 frame_of (frame.Isolated d n) = isolated_frame (names_of d) (option_map (λ s. string_bytes s) n)
 frame_of frame.Global = global_frame

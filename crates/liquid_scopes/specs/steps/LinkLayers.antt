@@ -1,6 +1,7 @@
 -- The layer that a link means.
-use Rattle.std.specs.Prelude.{List, map, option_map, string_bytes}
+use Rattle.std.specs.Prelude.{List, map, option_map, string_bytes, None}
 use Rattle.liquid_runtime.specs.meaning.Maps.{names_of}
+use Rattle.liquid_runtime.specs.meaning.LoopNames.{loop_names}
 use Rattle.liquid_runtime.specs.meaning.View.{View}
 use Rattle.liquid_scopes.specs.steps.Layers.{Layer, none_layer, stack_layer, global_layer, sandboxed_layer, isolated_layer, shown_over}
 use Rattle.liquid_scopes.specs.declared.link.Link.{Link}
@@ -9,6 +10,7 @@ use Rattle.liquid_scopes.specs.declared.link.Link.TheVariants as link
 abbrev pub layer_of : {V : Type 0} → Link V → Layer V
 layer_of link.None = none_layer
 layer_of (link.Stack d n) = stack_layer (names_of d) (option_map (λ s. string_bytes s) n)
+layer_of (link.Loop l) = stack_layer (loop_names l.value) None
 layer_of (link.Global g) = global_layer (names_of g)
 layer_of (link.Sandboxed d n saved) = sandboxed_layer (names_of d) (option_map (λ s. string_bytes s) n) saved
 layer_of (link.Isolated d g n saved) = isolated_layer (names_of d) (names_of g) (option_map (λ s. string_bytes s) n) saved

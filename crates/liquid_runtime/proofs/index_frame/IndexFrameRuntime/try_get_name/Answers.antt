@@ -6,5 +6,5 @@ use Rattle.liquid_runtime.proofs.index_frame.IndexFrameRuntime.try_get_name.Goal
 
 pub returns : goal.returns
 returns g c =
-    let f = c.args.self.now in c.value_of.ensures ∙ sym (lookup_indexed (names_of f.variables)
+    let f = c.args.self.now in c.seen_of.ensures ∙ sym (lookup_indexed (names_of f.variables)
     (shaped g.V.Fresh.shape f.parent.registers) f.parent.depth f.parent.lenient c.args.name.now)

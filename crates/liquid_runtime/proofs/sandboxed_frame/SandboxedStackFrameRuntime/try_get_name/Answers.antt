@@ -5,5 +5,5 @@ use Rattle.liquid_runtime.proofs.sandboxed_frame.SandboxedStackFrameRuntime.try_
 
 pub returns : goal.returns
 returns g c =
-    let f = c.args.self.now in c.value_of.ensures ∙ sym (lookup_sandboxed (g.P.Register.Fresh.shape f.registers.value) (names_of f.names)
+    let f = c.args.self.now in c.seen_of.ensures ∙ sym (lookup_sandboxed (g.P.Register.Fresh.shape f.registers.value) (names_of f.names)
     (option_map (λ s. string_bytes s) f.name) (g.P.Runtime.view f.parent) c.args.name.now)

@@ -1,7 +1,7 @@
 use Rattle.std.proofs.Common.{◌∙◌, ap, [], ◌∷◌, map}
 use Rattle.liquid_scopes.specs.steps.LinkLayers.{layer_of}
 use Rattle.liquid_scopes.proofs.LayerLaws.{map_append, pops}
-use Rattle.liquid_scopes.proofs.chained_scopes.ChainedScopesScopes.pop_names.Goals as goal
+use Rattle.liquid_scopes.proofs.chained_scopes.ChainedScopesScopes.pop_loop.Goals as goal
 
 pub returns-in-Some-clause-ends : goal.returns-in-Some-clause-ends
 returns-in-Some-clause-ends g c =

@@ -1,0 +1,285 @@
+//! The frame of a loop's turn. It holds no map of names: a name is looked up in the loop itself.
+ghost use Rattle.std.specs.Prelude.{◌≡◌, ◌+◌, ◌<◌, length, IfOk, IfSome, IfNone, IsSome, false, OnOk, OnErr, Some, Option, option_map, pos, codes, slice_get, string_bytes, is_some, map, unwrap_or, cond, bytes_eq, None, List, ℕ, true};
+ghost use Rattle.std.specs.FinMap.{get, insert};
+ghost use Rattle.liquid_scalar.specs.meaning.Scalar.{integer};
+ghost use Rattle.liquid_value.specs.meaning.Tree.{scalar};
+ghost use Rattle.liquid_value.specs.meaning.Cow.{cow_view};
+ghost use Rattle.liquid_value.specs.meaning.Members.{get_member, put_member};
+ghost use Rattle.liquid_value.specs.meaning.View.{view as tree_of, members_view};
+ghost use Rattle.liquid_runtime.specs.meaning.Maps.{names_of};
+ghost use Rattle.liquid_runtime.specs.meaning.Roots.{NamesOver};
+ghost use Rattle.liquid_runtime.specs.meaning.LoopNames.{counted_members, counted, item_tree, item_in, listed_tree, loop_names, names_of_item, seen_tree, place_tree};
+
+use crate::listed::Listed;
+use crate::names::{add_names, no_names};
+use liquid_value::{Array, Object, SharedObject, Value, ValueCow};
+use std::alloc::{AllocError, Global};
+use std::collections::BTreeSet;
+use std::rc::Rc;
+
+/// The place of an item in a loop, from 0, and the number of items: what the object `forloop` says.
+#[derive(Clone, Copy)]
+pub struct Counts {
+    pub place: u64,
+    pub size: u64,
+}
+
+/// A number of a range.
+#[derive(Clone, Copy)]
+pub struct RangeNumber {
+    pub value: i64,
+}
+
+/// The item of a turn.
+#[derive(Drop)]
+pub enum LoopItem {
+    /// An item of an array.
+    Listed(Listed),
+    /// A value of its own, as a number of a range.
+    Own(Value),
+}
+
+/// The frame of a loop's turn: the item under the loop's name, and the object `forloop`, whose members are made when
+/// they are asked for. The next turn writes over it.
+#[derive(Drop)]
+pub struct LoopFrame {
+    pub name: String,
+    pub item: LoopItem,
+    pub counts: Counts,
+}
+
+/// The value of a name, as it is found: a value that is lent in place, or an object `forloop` that isn't made yet.
+#[derive(Clone, Copy)]
+pub enum Seen<'v> {
+    Lent(&'v Value),
+    Loop(Counts),
+}
+
+impl Counts {
+    /// Returns the member of the object `forloop` of that name. `None` says nothing.
+    pub fn member(&self, word: &str) -> Option<Value>
+        ensures { IfSome result (λ part. get_member word.now (counted_members self.now.place self.now.size) ≡ Some (tree_of part)) }
+    {
+        match word {
+            "first" => Some(Value::scalar(self.place == 0)),
+            "last" => {
+                let index = self.place.checked_add(1)?;
+                Some(Value::scalar(index == self.size))
+            }
+            "index" => number(self.place.checked_add(1)?),
+            "index0" => number(self.place),
+            "length" => number(self.size),
+            "rindex" => number(self.size.saturating_sub(self.place)),
+            "rindex0" => number(self.size.saturating_sub(self.place.checked_add(1)?)),
+            _ => None,
+        }
+    }
+}
+
+impl Counts {
+    /// Makes the object `forloop`.
+    pub fn to_object(&self, alloc: Global) -> Result<Object, AllocError>
+        ensures { IfOk result (λ m. members_view m.entries ≡ counted_members self.now.place self.now.size) }
+    {
+        let Some(index) = self.place.checked_add(1) else {
+            return Err(AllocError);
+        };
+        let mut object = Object::new(alloc);
+        put(alloc, &mut object, "first", Value::scalar(self.place == 0))?;
+        put_count(alloc, &mut object, "index", index)?;
+        put_count(alloc, &mut object, "index0", self.place)?;
+        put(alloc, &mut object, "last", Value::scalar(index == self.size))?;
+        put_count(alloc, &mut object, "length", self.size)?;
+        put_count(alloc, &mut object, "rindex", self.size.saturating_sub(self.place))?;
+        put_count(alloc, &mut object, "rindex0", self.size.saturating_sub(index))?;
+        Ok(object)
+    }
+}
+
+impl Counts {
+    /// Makes the object `forloop`, as a value.
+    pub fn to_value(&self, alloc: Global) -> Result<Value, AllocError>
+        ensures { IfOk result (λ value. tree_of value ≡ counted self.now.place self.now.size) }
+    {
+        Ok(Value::Object(SharedObject::shared(alloc, self.to_object(alloc)?)?))
+    }
+}
+
+/// Inserts a count. If it does not fit, the error is out of memory: no memory holds that many items.
+fn put_count(alloc: Global, object: &mut Object, name: &str, count: u64) -> Result<(), AllocError>
+    ensures { IfOk result (λ _. members_view object.new.entries ≡ put_member name.now (place_tree count) (members_view object.old.entries)) }
+{
+    match i64::try_from(count) {
+        Ok(number) => put(alloc, object, name, Value::scalar(number)),
+        Err(_) => Err(AllocError),
+    }
+}
+
+#[tactic(auto, using(crate::proofs::LoopLaws::inserted))]
+fn put(alloc: Global, object: &mut Object, name: &str, value: Value) -> Result<(), AllocError>
+    ensures { IfOk result (λ _. members_view object.new.entries ≡ put_member name.now (tree_of value) (members_view object.old.entries)) }
+{
+    drop(object.insert(String::from_str(alloc, name)?, value)?);
+    Ok(())
+}
+
+impl<'v> Seen<'v> {
+    /// Returns the value, lent in place, or made if it is the object `forloop`.
+    pub fn to_cow(&self, alloc: Global) -> Result<ValueCow<'v>, AllocError>
+        ensures { IfOk result (λ value. cow_view value ≡ seen_tree self.now) }
+    {
+        match self {
+            Seen::Lent(value) => Ok(ValueCow::Borrowed(*value)),
+            Seen::Loop(counts) => Ok(ValueCow::Owned(counts.to_value(alloc)?)),
+        }
+    }
+}
+
+/// Gives a name a value.
+#[tactic(auto, using(crate::proofs::Objects::changed_objects))]
+fn bind(names: &mut Object, name: String, value: Value) -> Result<(), AllocError>
+    ensures { OnOk result (names_of names.new ≡ insert (names_of names.old) (string_bytes name) (tree_of value)) }
+{
+    drop(names.insert(name, value)?);
+    Ok(())
+}
+
+/// Returns a count as a value, if it is a whole number of one.
+fn number(count: u64) -> Option<Value>
+    ensures { IfSome result (λ value. tree_of value ≡ place_tree count) }
+{
+    match i64::try_from(count) {
+        Ok(number) => Some(Value::scalar(number)),
+        Err(_) => None,
+    }
+}
+
+impl Listed {
+    /// Returns the item at a place of an array, if it is there.
+    pub fn at(array: &Rc<Array>, place: usize) -> Result<Option<Listed>, AllocError>
+        ensures { IfOk result (λ listed. option_map listed_tree listed ≡ slice_get (map (λ v. tree_of v) array.now.value.items) place) }
+    {
+        if place < array.len() {
+            Ok(Some(Listed { array: array.clone()?, place }))
+        } else {
+            Ok(None)
+        }
+    }
+
+    fn get(&self) -> &Value
+        ensures { tree_of result.now ≡ listed_tree self.now }
+    {
+        &self.array[self.place]
+    }
+}
+
+impl LoopItem {
+    /// Returns the item.
+    pub fn get(&self) -> &Value
+        ensures { tree_of result.now ≡ item_tree self.now }
+    {
+        match self {
+            LoopItem::Listed(listed) => listed.get(),
+            LoopItem::Own(value) => value,
+        }
+    }
+}
+
+impl LoopFrame {
+    /// Writes the turn of an item of an array over that of the last one, if the loop has this name and the item is there.
+    /// Otherwise it returns `false`, and changes nothing.
+    pub fn renew(
+        &mut self,
+        name: &str,
+        array: &Rc<Array>,
+        place: usize,
+        counts: Counts,
+    ) -> Result<bool, AllocError>
+        ensures renewed { IfOk result (λ is_done. is_done ≡ true → IfSome (item_in array.now place) (λ t. loop_names self.new
+            ≡ names_of_item name.now (counted counts.place counts.size) t)) }
+        ensures there { IfOk result (λ is_done. is_done ≡ true → IsSome (item_in array.now place)) }
+        ensures named { self.new.name ≡ self.old.name }
+        ensures unchanged { IfOk result (λ is_done. is_done ≡ false → self.new ≡ self.old) }
+        ensures refused { OnErr result (self.new ≡ self.old) }
+    {
+        if self.name.as_str() != name {
+            return Ok(false);
+        }
+        match Listed::at(array, place)? {
+            Some(listed) => {
+                self.item = LoopItem::Listed(listed);
+                self.counts = counts;
+                Ok(true)
+            }
+            None => Ok(false),
+        }
+    }
+
+    /// Writes the turn of a number over that of the last one, if the loop has this name. Otherwise it returns `false`, and
+    /// changes nothing.
+    pub fn renew_number(&mut self, name: &str, number: RangeNumber, counts: Counts) -> bool
+        ensures renewed { result ≡ true → loop_names self.new
+            ≡ names_of_item name.now (counted counts.place counts.size) (scalar (integer number.value)) }
+        ensures named { self.new.name ≡ self.old.name }
+        ensures unchanged { result ≡ false → self.new ≡ self.old }
+    {
+        if self.name.as_str() != name {
+            return false;
+        }
+        self.item = LoopItem::Own(Value::scalar(number.value));
+        self.counts = counts;
+        true
+    }
+
+    /// Returns the loop's name, which is one of the two names of its frame.
+    pub fn own_name(&self) -> &str
+        ensures { result.now ≡ string_bytes self.now.name }
+    {
+        self.name.as_str()
+    }
+
+    /// Returns the names of the frame, and those below it.
+    pub fn add_names(
+        &self,
+        alloc: Global,
+        below: BTreeSet<String>,
+    ) -> Result<BTreeSet<String>, AllocError>
+        ensures { IfOk result (λ names. NamesOver (loop_names self.now) below names) }
+    {
+        add_names(&self.to_names(alloc)?, below)
+    }
+
+    /// Returns the names of the frame in an object.
+    fn to_names(&self, alloc: Global) -> Result<Object, AllocError>
+        ensures { IfOk result (λ names. names_of names ≡ loop_names self.now) }
+    {
+        let mut names = no_names(alloc);
+        bind(&mut names, String::from_str(alloc, "forloop")?, self.counts.to_value(alloc)?)?;
+        bind(&mut names, self.name.clone()?, self.item.get().clone()?)?;
+        Ok(names)
+    }
+
+    /// Returns the value that the frame gives a name.
+    #[tactic(auto, using(crate::proofs::LoopLaws::looked))]
+    pub fn look(&self, name: &str) -> Option<Seen<'_>>
+        ensures { option_map seen_tree result ≡ get (loop_names self.now) name.now }
+    {
+        if name == self.name.as_str() {
+            Some(Seen::Lent(self.item.get()))
+        } else {
+            self.counted(name)
+        }
+    }
+
+    /// Returns what the name `forloop` gives.
+    fn counted(&self, name: &str) -> Option<Seen<'_>>
+        ensures { option_map seen_tree result
+            ≡ cond (bytes_eq name.now (codes "forloop")) (Some (counted self.now.counts.place self.now.counts.size)) None }
+    {
+        if name == "forloop" {
+            Some(Seen::Loop(self.counts))
+        } else {
+            None
+        }
+    }
+}
