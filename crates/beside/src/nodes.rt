@@ -5,8 +5,7 @@ ghost use Rattle.beside.specs.meaning.Nodes.{nodes_beside};
 use crate::one_of::Beside;
 use liquid_error::Error;
 use liquid_plugins::{Discreet, Renderable, Turn};
-use liquid_runtime::{Fresh, Runtime};
-use liquid_value::Object;
+use liquid_runtime::{Fresh, LoopFrame, Runtime};
 use std::alloc::Global;
 
 impl<V: Fresh, L: Renderable<V>, O: Renderable<V>> Renderable<V> for Beside<L, O> {
@@ -56,11 +55,11 @@ impl<V: Fresh, L: Renderable<V>, O: Renderable<V>> Renderable<V> for Beside<L, O
         }
     }
 
-    fn recycle(&self, progress: &mut Beside<L::Progress, O::Progress>, names: Object) {
+    fn recycle(&self, progress: &mut Beside<L::Progress, O::Progress>, frame: Box<LoopFrame>) {
         match (self, progress) {
-            (Beside::Library(node), Beside::Library(progress)) => node.recycle(progress, names),
-            (Beside::Own(node), Beside::Own(progress)) => node.recycle(progress, names),
-            _ => drop(names),
+            (Beside::Library(node), Beside::Library(progress)) => node.recycle(progress, frame),
+            (Beside::Own(node), Beside::Own(progress)) => node.recycle(progress, frame),
+            _ => drop(frame),
         }
     }
 }

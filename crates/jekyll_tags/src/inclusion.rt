@@ -150,7 +150,7 @@ fn evaluate_members<R: Runtime>(
     Ok(members)
 }
 
-#[tactic(auto, using(liquid_tags::proofs::Writes::inserted))]
+#[tactic(auto, using(liquid_runtime::proofs::LoopLaws::inserted))]
 fn put(alloc: Global, object: &mut Object, name: &str, value: Value) -> Result<(), AllocError>
     ensures { IfOk result (λ _. members_view object.new.entries ≡ put_member name.now (tree_of value) (members_view object.old.entries)) }
 {

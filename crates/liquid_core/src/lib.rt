@@ -162,8 +162,9 @@ pub mod partials {
 pub mod runtime {
     pub use liquid_plugins::{Expression, ExpressionMark, Renderable, Turn, Variable, VariableOf};
     pub use liquid_runtime::{
-        BuiltRuntime, Frame, Fresh, GlobalFrame, IndexFrame, Interrupt, InterruptRegister,
-        Registers, Runtime, RuntimeBuilder, RuntimeCore, SandboxedStackFrame, Scopes, StackFrame,
+        BuiltRuntime, Counts, Frame, Fresh, GlobalFrame, IndexFrame, Interrupt, InterruptRegister,
+        Listed, LoopFrame, LoopItem, Registers, Runtime, RuntimeBuilder, RuntimeCore,
+        SandboxedStackFrame, Scopes, Seen, StackFrame,
     };
     pub use liquid_scopes::{ChainedScopes, FlatScopes, Looks};
     pub use liquid_template::{PartialStore, Template};

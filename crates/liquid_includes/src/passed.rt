@@ -37,7 +37,10 @@ impl Passed {
     {
         match self {
             Passed::One(value) => one_at(value, place),
-            Passed::Each(items) => items.get(place),
+            Passed::Each(items) => match items.get(place)? {
+                Some(item) => Ok(Some(item.to_value()?)),
+                None => Ok(None),
+            },
         }
     }
 }

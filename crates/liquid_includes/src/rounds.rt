@@ -14,8 +14,8 @@ ghost use Rattle.liquid_includes.specs.meaning.Rounds.{has_name, names_at, parti
 use crate::calls::PartialCall;
 use crate::passed::{Passed, passes};
 use liquid_core::parser::{Bytes, ListOf, Meant, TreeMark};
+use liquid_core::runtime::Counts;
 use liquid_core::{Error, Expression, Frame, Object, Runtime, Turn, Value, no_names};
-use liquid_loops::forloop;
 use liquid_tags::Inclusion;
 use liquid_tags::names::bind;
 use liquid_tags::partial_call::call::{inclusion_trace, partial_name};
@@ -206,7 +206,7 @@ fn loop_names(alloc: Global, is_loop: bool, place: u64, size: u64) -> Result<Obj
 {
     let mut names = no_names(alloc);
     if is_loop {
-        let value = forloop(alloc, place, size)?;
+        let value = Counts { place, size }.to_value(alloc)?;
         bind(alloc, &mut names, "forloop", value)?;
     }
     Ok(names)

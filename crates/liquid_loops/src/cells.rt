@@ -4,10 +4,10 @@ ghost use Rattle.liquid_scalar.specs.meaning.Scalar.{boolean, integer};
 ghost use Rattle.liquid_value.specs.meaning.Members.{put_member};
 ghost use Rattle.liquid_value.specs.meaning.Tree.{scalar};
 ghost use Rattle.liquid_value.specs.meaning.View.{view as tree_of, members_view};
-ghost use Rattle.liquid_tags.specs.meaning.Loops.{forloop, forloop_members};
 ghost use Rattle.liquid_loops.specs.meaning.Cells.{begins, cell_members, column_at, next_cell, next_row, opens_cell, row_at, tablerowloop};
 ghost use Rattle.liquid_loops.specs.meaning.Cells.{text_between};
 
+use liquid_core::runtime::Counts;
 use liquid_core::{Object, SharedObject, Value};
 use std::alloc::{AllocError, Global};
 
@@ -50,7 +50,7 @@ pub(crate) fn tablerowloop(
 ) -> Result<Value, AllocError>
     ensures { IfOk result (λ v. tree_of v ≡ tablerowloop columns place size) }
 {
-    let mut members = loop_members(alloc, place, size)?;
+    let mut members = Counts { place, size }.to_object(alloc)?;
     let column = column_at(columns, place)?;
     let row = row_at(columns, place)?;
     put_cell(alloc, &mut members, columns, row, column)?;
@@ -74,30 +74,6 @@ fn put_cell(
     put(alloc, members, "col_last", Value::scalar(column == columns))
 }
 
-/// Returns the object `forloop` of the item at a place, of that many. Places count from 0.
-pub fn forloop(alloc: Global, place: u64, size: u64) -> Result<Value, AllocError>
-    ensures { IfOk result (λ v. tree_of v ≡ forloop place size) }
-{
-    let members = loop_members(alloc, place, size)?;
-    Ok(Value::Object(SharedObject::shared(alloc, members)?))
-}
-
-/// Returns the members of `forloop` of the item at a place.
-fn loop_members(alloc: Global, place: u64, size: u64) -> Result<Object, AllocError>
-    ensures { IfOk result (λ m. members_view m.entries ≡ forloop_members place size) }
-{
-    let index = one_more(place)?;
-    let mut members = Object::new(alloc);
-    put(alloc, &mut members, "first", Value::scalar(place == 0))?;
-    put_number(alloc, &mut members, "index", index)?;
-    put_number(alloc, &mut members, "index0", place)?;
-    put(alloc, &mut members, "last", Value::scalar(index == size))?;
-    put_number(alloc, &mut members, "length", size)?;
-    put_number(alloc, &mut members, "rindex", size.saturating_sub(place))?;
-    put_number(alloc, &mut members, "rindex0", size.saturating_sub(index))?;
-    Ok(members)
-}
-
 /// Inserts a count. If it does not fit, the error is out of memory: no memory holds that many items.
 fn put_number(alloc: Global, members: &mut Object, name: &str, count: u64) -> Result<(), AllocError>
     ensures { IfOk result
@@ -110,7 +86,7 @@ fn put_number(alloc: Global, members: &mut Object, name: &str, count: u64) -> Re
 }
 
 /// Inserts a member.
-#[tactic(auto, using(liquid_tags::proofs::Writes::inserted))]
+#[tactic(auto, using(liquid_runtime::proofs::LoopLaws::inserted))]
 fn put(alloc: Global, members: &mut Object, name: &str, value: Value) -> Result<(), AllocError>
     ensures { IfOk result (λ _. members_view members.new.entries
         ≡ put_member name.now (tree_of value) (members_view members.old.entries)) }

@@ -9,7 +9,6 @@ pub mod read_loop;
 pub mod rounds;
 pub mod tables;
 
-pub use cells::forloop;
 pub use loops::{Loop, picked_items};
 pub use options::{LoopBlock, LoopOption, Options};
 pub use picked::Picked;

@@ -1,10 +1,10 @@
 //! Some of the items of a series, in order or in reverse.
 ghost use Rattle.std.specs.Prelude.{◌≡◌, ◌+ℤ◌, drop, length, option_map, slice_get, IfOk, OnErr, OnOk};
-ghost use Rattle.liquid_value.specs.meaning.View.{view as tree_of};
+ghost use Rattle.liquid_runtime.specs.meaning.LoopNames.{item_tree};
 ghost use Rattle.liquid_tags.specs.meaning.Items.{items_left};
 ghost use Rattle.liquid_loops.specs.meaning.Picked.{natural, picked, picked_left};
 
-use liquid_core::Value;
+use liquid_core::runtime::LoopItem;
 use liquid_tags::Items;
 use std::alloc::AllocError;
 
@@ -54,8 +54,8 @@ impl Picked {
 
     /// Removes the first item and returns it, if there is one. If memory runs out, nothing is removed.
     #[tactic(auto, using(crate::proofs::PickedLemmas::taken))]
-    pub fn take_first(&mut self) -> Result<Option<Value>, AllocError>
-        ensures first { IfOk result (λ item. option_map tree_of item ≡ slice_get (picked_left self.old) 0) }
+    pub fn take_first(&mut self) -> Result<Option<LoopItem>, AllocError>
+        ensures first { IfOk result (λ item. option_map item_tree item ≡ slice_get (picked_left self.old) 0) }
         ensures following { OnOk result (picked_left self.new ≡ drop 1 (picked_left self.old)) }
         ensures same { OnErr result (picked_left self.new ≡ picked_left self.old) }
     {

@@ -1,7 +1,7 @@
 //! The turns of a loop.
 ghost use Rattle.std.specs.Prelude.{◌≡◌, option_map, slice_get, string_bytes, IfOk, OnOk};
 ghost use Rattle.liquid_error.specs.meaning.Told.{Gives};
-ghost use Rattle.liquid_value.specs.meaning.View.{view as tree_of};
+ghost use Rattle.liquid_runtime.specs.meaning.LoopNames.{item_tree};
 ghost use Rattle.liquid_runtime.specs.meaning.Written.{SameFrames};
 ghost use Rattle.liquid_plugins.specs.meaning.TurnOf.{turn_of, Leaves, LeavesProgress};
 ghost use Rattle.liquid_tags.specs.meaning.Loops.{following, loop_takes};
@@ -10,9 +10,8 @@ ghost use Rattle.liquid_loops.specs.meaning.Picked.{picked_left};
 
 use crate::picked::Picked;
 use liquid_core::parser::Meant;
-use liquid_core::runtime::Interrupt;
-use liquid_core::{Error, Object, Runtime, Turn, Value};
-use liquid_tags::for_block::kept::Kept;
+use liquid_core::runtime::{Counts, Interrupt, LoopFrame, LoopItem};
+use liquid_core::{Error, Runtime, Turn};
 use liquid_tags::for_block::rounds::RoundsShape;
 use liquid_tags::for_block::turns::item_turn;
 use std::alloc::{AllocError, Global};
@@ -29,10 +28,8 @@ pub struct Rounds {
     size: u64,
     /// The greatest number of turns: one for each item, and one after the last.
     turns: u64,
-    /// The object `forloop` of the turn that has ended. The next turn writes over it.
-    kept: Option<Kept>,
-    /// The names of the turn that has ended. The next turn writes over them.
-    names: Option<Object>,
+    /// The frame of the turn that has ended. The next turn writes over it.
+    frame: Option<Box<LoopFrame>>,
 }
 
 impl Meant for Rounds {
@@ -49,11 +46,11 @@ impl Rounds {
         self.turns
     }
 
-    /// Keeps the names of a turn that has ended, for the next one to write over.
-    pub fn recycle(&mut self, names: Object)
+    /// Keeps the frame of a turn that has ended, for the next one to write over.
+    pub fn recycle(&mut self, frame: Box<LoopFrame>)
         ensures { rounds_of self.new ≡ rounds_of self.old }
     {
-        self.names = Some(names);
+        self.frame = Some(frame);
     }
 }
 
@@ -73,8 +70,7 @@ pub fn rounds_over(alloc: Global, items: Picked) -> Result<Option<Box<Rounds>>, 
                 place: 0,
                 size,
                 turns,
-                kept: None,
-                names: None,
+                frame: None,
             };
             Ok(Some(Box::new(alloc, rounds)?))
         }
@@ -107,13 +103,13 @@ pub fn loop_turn<R: Runtime>(
             return Ok(Turn::End);
         }
     }
-    let used = mem::replace(&mut rounds.names, None);
-    Ok(item_turn(alloc, name, &mut rounds.kept, used, place, size, item)?)
+    let used = mem::replace(&mut rounds.frame, None);
+    Ok(item_turn(alloc, name, used, Counts { place, size }, item)?)
 }
 
 /// Removes the next item and returns it, if there is one.
-fn next_item(rounds: &mut Rounds) -> Result<Option<Value>, AllocError>
-    ensures item { IfOk result (λ item. option_map tree_of item ≡ slice_get (rounds_of rounds.old).left 0) }
+fn next_item(rounds: &mut Rounds) -> Result<Option<LoopItem>, AllocError>
+    ensures item { IfOk result (λ item. option_map item_tree item ≡ slice_get (rounds_of rounds.old).left 0) }
     ensures following { OnOk result (rounds_of rounds.new ≡ following (rounds_of rounds.old)) }
 {
     match rounds.place.checked_add(1) {

@@ -2,6 +2,7 @@
 ghost use Rattle.std.specs.Prelude.{◌≡◌, ◌+◌, option_map, string_bytes, IfOk, IfSome, OnOk};
 ghost use Rattle.liquid_error.specs.meaning.Told.{Gives};
 ghost use Rattle.liquid_value.specs.meaning.View.{view as tree_of};
+ghost use Rattle.liquid_runtime.specs.meaning.LoopNames.{item_tree};
 ghost use Rattle.liquid_runtime.specs.meaning.Maps.{names_of};
 ghost use Rattle.liquid_runtime.specs.meaning.Written.{SameFrames};
 ghost use Rattle.liquid_plugins.specs.meaning.TurnOf.{turn_of, Leaves, LeavesProgress};
@@ -18,7 +19,7 @@ use crate::loops::{Loop, picked_items};
 use crate::options::option_number;
 use crate::picked::{Picked, natural};
 use liquid_core::parser::{ListOf, Meant, TreeMark};
-use liquid_core::runtime::Interrupt;
+use liquid_core::runtime::{Interrupt, LoopItem};
 use liquid_core::{Error, Frame, Object, Runtime, Turn, Value, no_names};
 use liquid_tags::Series;
 use liquid_tags::names::bind;
@@ -223,14 +224,14 @@ fn cell_turn(
     columns: u64,
     place: u64,
     size: u64,
-    item: Option<Value>,
+    item: Option<LoopItem>,
 ) -> Result<Turn, AllocError>
-    ensures { IfOk result (λ turn. turn_of turn ≡ cell_turn (string_bytes name.now) columns place size (option_map tree_of item)) }
+    ensures { IfOk result (λ turn. turn_of turn ≡ cell_turn (string_bytes name.now) columns place size (option_map item_tree item)) }
 {
     match item {
         Some(item) => {
             let cell = tablerowloop(alloc, columns, place, size)?;
-            let names = names_of_cell(alloc, name, cell, item)?;
+            let names = names_of_cell(alloc, name, cell, item.to_value()?)?;
             Ok(Turn::Body(0, Frame::Stack(names, None), None))
         }
         None => Ok(Turn::End),

@@ -10,7 +10,7 @@ use Rattle.liquid_value.specs.meaning.Members.{get_member, member_count}
 use Rattle.liquid_value.specs.meaning.View.{view}
 use Rattle.liquid_value.specs.declared.value.Value.{Value}
 use Rattle.liquid_value.specs.declared.cow.ValueCow.TheVariants.{Owned}
-use Rattle.liquid_runtime.specs.meaning.LoopNames.{counted, counted_members}
+use Rattle.liquid_runtime.specs.meaning.LoopNames.{forloop, forloop_members}
 use Rattle.liquid_runtime.specs.meaning.Made.{OfLoop, InPlaceOrMade}
 use Rattle.liquid_paths.specs.meaning.Step.{step, size_asked}
 use Rattle.liquid_paths.specs.meaning.Walk.{Path, walk}
@@ -87,17 +87,16 @@ module _ {Reg : Type 0} where
       first_leads v t part e es is_part ∙ literals_lead v part u es on)
 
 -- a member of an object `forloop`
-pub member_walks : (place size : ℕ) (word : List ℕ) (t : Tree) → get_member word (counted_members place size) ≡ Some t
-    → literal_walk (counted place size) (index (literal (scalar (text word))) no_indexes) ≡ Some t
+pub member_walks : (place size : ℕ) (word : List ℕ) (t : Tree) → get_member word (forloop_members place size) ≡ Some t
+    → literal_walk (forloop place size) (index (literal (scalar (text word))) no_indexes) ≡ Some t
 member_walks place size word t is =
-    ap (λ o. option_and_then (λ part. literal_walk part no_indexes) (option_or o (size_asked word (member_count (counted_members place size))))) is
+    ap (λ o. option_and_then (λ part. literal_walk part no_indexes) (option_or o (size_asked word (member_count (forloop_members place size))))) is
 
-pub member_made : (place size : ℕ) (word : List ℕ) (t : Tree) → get_member word (counted_members place size) ≡ Some t → OfLoop t
+pub member_made : (place size : ℕ) (word : List ℕ) (t : Tree) → get_member word (forloop_members place size) ≡ Some t → OfLoop t
 member_made place size word t is =
-    (place, size, text word ∷ [], ap (λ o. option_and_then (λ u. walk u []) (option_or o (size_asked word (member_count (counted_members place size))))) is)
+    (place, size, text word ∷ [], ap (λ o. option_and_then (λ u. walk u []) (option_or o (size_asked word (member_count (forloop_members place size))))) is)
 
 pub made_of_loop : (value : Value) → OfLoop (view value) → InPlaceOrMade (Owned value)
 made_of_loop value is = inr is
 
 pub ruleset member_leads = (member_walks, member_made)
-

@@ -5,7 +5,7 @@ ghost use Rattle.liquid_value.specs.meaning.Tree.{scalar};
 ghost use Rattle.liquid_value.specs.meaning.Cow.{cow_view};
 ghost use Rattle.liquid_value.specs.meaning.View.{view as tree_of};
 ghost use Rattle.liquid_runtime.specs.meaning.Made.{InPlaceOrMade, OfLoop};
-ghost use Rattle.liquid_runtime.specs.meaning.LoopNames.{counted, seen_tree};
+ghost use Rattle.liquid_runtime.specs.meaning.LoopNames.{forloop, seen_tree};
 ghost use Rattle.liquid_paths.specs.meaning.PathOf.{index_of};
 ghost use Rattle.liquid_paths.specs.meaning.Step.{step};
 ghost use Rattle.liquid_paths.specs.meaning.Walk.{walk};
@@ -93,7 +93,7 @@ fn loop_member<'c, R: Runtime>(
     _runtime: &'c R,
 ) -> Option<ValueCow<'c>>
     ensures gives { IfSome result (λ found.
-        option_and_then (λ path. walk (counted counts.place counts.size) path) (try_path_of (R.view _runtime.now) (expressions_of indexes.now.items))
+        option_and_then (λ path. walk (forloop counts.place counts.size) path) (try_path_of (R.view _runtime.now) (expressions_of indexes.now.items))
         ≡ Some (cow_view found)) }
     ensures in_place { IfSome result InPlaceOrMade }
 {
@@ -118,7 +118,7 @@ fn only_word(indexes: &Vec<Expression>) -> Option<&str>
 /// Returns the member of an object `forloop` of that name.
 #[tactic(auto, using(crate::proofs::BorrowedValues::member_leads))]
 fn member_at(counts: Counts, word: &str) -> Option<Value>
-    ensures walks { IfSome result (λ part. literal_walk (counted counts.place counts.size) (index (literal (scalar (text word.now))) no_indexes)
+    ensures walks { IfSome result (λ part. literal_walk (forloop counts.place counts.size) (index (literal (scalar (text word.now))) no_indexes)
         ≡ Some (tree_of part)) }
     ensures made { IfSome result (λ part. OfLoop (tree_of part)) }
 {

@@ -75,12 +75,12 @@ pub trait Renderable<V: Fresh>: Meant + Drop {
         ensures { Self.Progress.shape progress.new
             ≡ means.catches (Self.shape self.now) (Self.Progress.shape progress.old) (string_bytes text) };
 
-    /// Takes back the object of the frame of the turn that has ended, so that the next turn can write over it. The
+    /// Takes back the loop's frame of the turn that has ended, so that the next turn can write over it. The
     /// meaning of the progress does not change. A node that has no use for it keeps the default.
-    fn recycle(&self, progress: &mut Self::Progress, names: Box<LoopFrame>)
+    fn recycle(&self, progress: &mut Self::Progress, frame: Box<LoopFrame>)
         ensures { Self.Progress.shape progress.new ≡ Self.Progress.shape progress.old }
     {
-        drop(names)
+        drop(frame)
     }
 }
 

@@ -30,7 +30,7 @@ use Rattle.std.specs.Prelude.{Ok}
 use Rattle.liquid_value.specs.meaning.Tree.{Tree}
 use Rattle.liquid_runtime.specs.declared.loop_frame.LoopFrame.{LoopFrame}
 use Rattle.liquid_runtime.specs.meaning.Maps.{Names}
-use Rattle.liquid_runtime.specs.meaning.LoopNames.{loop_names, counted, item_tree}
+use Rattle.liquid_runtime.specs.meaning.LoopNames.{loop_names, forloop, item_tree}
 
 abbrev no_names : Names
 no_names = empty
@@ -45,9 +45,9 @@ forloop_at loop q =
 -- the item is under the loop's name, and `forloop` under its own
 pub looked : (l : LoopFrame) (q : List ℕ) → get (loop_names l) q
     ≡ cond (bytes_eq q (string_bytes l.name)) (Some (item_tree l.item))
-    (cond (bytes_eq q (codes "forloop")) (Some (counted l.counts.place l.counts.size)) None)
+    (cond (bytes_eq q (codes "forloop")) (Some (forloop l.counts.place l.counts.size)) None)
 looked l q =
-    let loop = counted l.counts.place l.counts.size in
+    let loop = forloop l.counts.place l.counts.size in
     get-insert nat_list_cmp_total (insert no_names (codes "forloop") loop) (string_bytes l.name) (item_tree l.item) q
     ∙ ap (λ b. cond b (Some (item_tree l.item)) (get (insert no_names (codes "forloop") loop) q)) (is_eq-slice_cmp q (string_bytes l.name))
     ∙ ap (cond (bytes_eq q (string_bytes l.name)) (Some (item_tree l.item))) (forloop_at loop q)
@@ -80,14 +80,13 @@ in_place_stays (Borrowed value) is = tt
 in_place_stays (Owned value) is = inl is
 
 -- what a path from an object `forloop` leads to
-pub of_loop : (place size : ℕ) (path : Path) (value : Value) (t : Tree) → walk (counted place size) path ≡ Some t → view value ≡ t
+pub of_loop : (place size : ℕ) (path : Path) (value : Value) (t : Tree) → walk (forloop place size) path ≡ Some t → view value ≡ t
     → InPlaceOrMade (Owned value)
 of_loop place size path value t leads is = inr (place, size, path, leads ∙ ap Some (sym is))
 
 pub ruleset made = (in_place_stays, of_loop)
 
 -- a walk that refuses nothing leads to its value
-pub leads_from : (place size : ℕ) (front path : Path) (t : Tree) → Ok t ≡ find_after front (counted place size) path → OfLoop t
+pub leads_from : (place size : ℕ) (front path : Path) (t : Tree) → Ok t ≡ find_after front (forloop place size) path → OfLoop t
 leads_from place size front path t is =
-    (place, size, path, sym (find_after-agrees front (counted place size) path) ∙ ap result_ok (sym is))
-
+    (place, size, path, sym (find_after-agrees front (forloop place size) path) ∙ ap result_ok (sym is))

@@ -4,8 +4,8 @@ ghost use Rattle.liquid_runtime.specs.meaning.Frames.{begin_global, restored_by,
 ghost use Rattle.liquid_runtime.specs.steps.FrameViews.{assigned_view};
 ghost use Rattle.liquid_runtime.specs.meaning.Maps.{names_of};
 
-use crate::names::{add_names, set_name, seen_of, value_of};
 use crate::loop_frame::Seen;
+use crate::names::{add_names, seen_of, set_name, value_of};
 use crate::registers::Registers;
 use crate::runtime::Runtime;
 use liquid_error::Error;

@@ -5,8 +5,8 @@ ghost use Rattle.liquid_runtime.specs.meaning.Calls.{shaped};
 ghost use Rattle.liquid_runtime.specs.steps.FrameViews.{core_with, indexed_view};
 ghost use Rattle.liquid_runtime.specs.meaning.Maps.{names_of};
 
-use crate::names::{add_names, set_name, seen_of, value_of};
 use crate::loop_frame::Seen;
+use crate::names::{add_names, seen_of, set_name, value_of};
 use crate::registers::{Fresh, Registers};
 use crate::runtime::Runtime;
 use crate::runtime_core::RuntimeCore;

@@ -25,7 +25,7 @@ pub use laws::{
     set_index_changes_no_other_name, stack_names_first,
 };
 pub use listed::Listed;
-pub use loop_frame::{Counts, LoopFrame, LoopItem, RangeNumber, Seen};
+pub use loop_frame::{Counts, LoopFrame, LoopItem, Seen};
 pub use registers::{Fresh, Interrupt, InterruptRegister, Registers};
 pub use runtime::{Runtime, find_seen};
 pub use runtime_core::RuntimeCore;

@@ -1,33 +1,24 @@
 //! The frame of a loop's turn. It holds no map of names: a name is looked up in the loop itself.
-ghost use Rattle.std.specs.Prelude.{◌≡◌, ◌+◌, ◌<◌, length, IfOk, IfSome, IfNone, IsSome, false, OnOk, OnErr, Some, Option, option_map, pos, codes, slice_get, string_bytes, is_some, map, unwrap_or, cond, bytes_eq, None, List, ℕ, true};
+ghost use Rattle.std.specs.Prelude.{◌≡◌, IfOk, IfSome, OnOk, Some, None, option_map, codes, string_bytes, cond, bytes_eq};
 ghost use Rattle.std.specs.FinMap.{get, insert};
-ghost use Rattle.liquid_scalar.specs.meaning.Scalar.{integer};
-ghost use Rattle.liquid_value.specs.meaning.Tree.{scalar};
 ghost use Rattle.liquid_value.specs.meaning.Cow.{cow_view};
 ghost use Rattle.liquid_value.specs.meaning.Members.{get_member, put_member};
 ghost use Rattle.liquid_value.specs.meaning.View.{view as tree_of, members_view};
 ghost use Rattle.liquid_runtime.specs.meaning.Maps.{names_of};
 ghost use Rattle.liquid_runtime.specs.meaning.Roots.{NamesOver};
-ghost use Rattle.liquid_runtime.specs.meaning.LoopNames.{counted_members, counted, item_tree, item_in, listed_tree, loop_names, names_of_item, seen_tree, place_tree};
+ghost use Rattle.liquid_runtime.specs.meaning.LoopNames.{forloop, forloop_members, item_tree, loop_names, names_of_item, place_tree, seen_tree};
 
 use crate::listed::Listed;
 use crate::names::{add_names, no_names};
-use liquid_value::{Array, Object, SharedObject, Value, ValueCow};
+use liquid_value::{Object, SharedObject, Value, ValueCow};
 use std::alloc::{AllocError, Global};
 use std::collections::BTreeSet;
-use std::rc::Rc;
 
 /// The place of an item in a loop, from 0, and the number of items: what the object `forloop` says.
 #[derive(Clone, Copy)]
 pub struct Counts {
     pub place: u64,
     pub size: u64,
-}
-
-/// A number of a range.
-#[derive(Clone, Copy)]
-pub struct RangeNumber {
-    pub value: i64,
 }
 
 /// The item of a turn.
@@ -58,7 +49,7 @@ pub enum Seen<'v> {
 impl Counts {
     /// Returns the member of the object `forloop` of that name. `None` says nothing.
     pub fn member(&self, word: &str) -> Option<Value>
-        ensures { IfSome result (λ part. get_member word.now (counted_members self.now.place self.now.size) ≡ Some (tree_of part)) }
+        ensures { IfSome result (λ part. get_member word.now (forloop_members self.now.place self.now.size) ≡ Some (tree_of part)) }
     {
         match word {
             "first" => Some(Value::scalar(self.place == 0)),
@@ -74,12 +65,10 @@ impl Counts {
             _ => None,
         }
     }
-}
 
-impl Counts {
     /// Makes the object `forloop`.
     pub fn to_object(&self, alloc: Global) -> Result<Object, AllocError>
-        ensures { IfOk result (λ m. members_view m.entries ≡ counted_members self.now.place self.now.size) }
+        ensures { IfOk result (λ m. members_view m.entries ≡ forloop_members self.now.place self.now.size) }
     {
         let Some(index) = self.place.checked_add(1) else {
             return Err(AllocError);
@@ -88,18 +77,31 @@ impl Counts {
         put(alloc, &mut object, "first", Value::scalar(self.place == 0))?;
         put_count(alloc, &mut object, "index", index)?;
         put_count(alloc, &mut object, "index0", self.place)?;
-        put(alloc, &mut object, "last", Value::scalar(index == self.size))?;
+        put(
+            alloc,
+            &mut object,
+            "last",
+            Value::scalar(index == self.size),
+        )?;
         put_count(alloc, &mut object, "length", self.size)?;
-        put_count(alloc, &mut object, "rindex", self.size.saturating_sub(self.place))?;
-        put_count(alloc, &mut object, "rindex0", self.size.saturating_sub(index))?;
+        put_count(
+            alloc,
+            &mut object,
+            "rindex",
+            self.size.saturating_sub(self.place),
+        )?;
+        put_count(
+            alloc,
+            &mut object,
+            "rindex0",
+            self.size.saturating_sub(index),
+        )?;
         Ok(object)
     }
-}
 
-impl Counts {
     /// Makes the object `forloop`, as a value.
     pub fn to_value(&self, alloc: Global) -> Result<Value, AllocError>
-        ensures { IfOk result (λ value. tree_of value ≡ counted self.now.place self.now.size) }
+        ensures { IfOk result (λ value. tree_of value ≡ forloop self.now.place self.now.size) }
     {
         Ok(Value::Object(SharedObject::shared(alloc, self.to_object(alloc)?)?))
     }
@@ -154,25 +156,6 @@ fn number(count: u64) -> Option<Value>
     }
 }
 
-impl Listed {
-    /// Returns the item at a place of an array, if it is there.
-    pub fn at(array: &Rc<Array>, place: usize) -> Result<Option<Listed>, AllocError>
-        ensures { IfOk result (λ listed. option_map listed_tree listed ≡ slice_get (map (λ v. tree_of v) array.now.value.items) place) }
-    {
-        if place < array.len() {
-            Ok(Some(Listed { array: array.clone()?, place }))
-        } else {
-            Ok(None)
-        }
-    }
-
-    fn get(&self) -> &Value
-        ensures { tree_of result.now ≡ listed_tree self.now }
-    {
-        &self.array[self.place]
-    }
-}
-
 impl LoopItem {
     /// Returns the item.
     pub fn get(&self) -> &Value
@@ -183,52 +166,38 @@ impl LoopItem {
             LoopItem::Own(value) => value,
         }
     }
+
+    /// Returns a copy of the item.
+    pub fn to_value(&self) -> Result<Value, AllocError>
+        ensures { IfOk result (λ value. tree_of value ≡ item_tree self.now) }
+    {
+        self.get().clone()
+    }
 }
 
 impl LoopFrame {
-    /// Writes the turn of an item of an array over that of the last one, if the loop has this name and the item is there.
-    /// Otherwise it returns `false`, and changes nothing.
-    pub fn renew(
-        &mut self,
+    /// Returns the frame of an item's turn in a loop with this name. It is the frame of the turn before, written over, if that
+    /// is given and has the name.
+    #[inline(always)]
+    pub fn of_turn(
+        alloc: Global,
+        used: Option<Box<LoopFrame>>,
         name: &str,
-        array: &Rc<Array>,
-        place: usize,
+        item: LoopItem,
         counts: Counts,
-    ) -> Result<bool, AllocError>
-        ensures renewed { IfOk result (λ is_done. is_done ≡ true → IfSome (item_in array.now place) (λ t. loop_names self.new
-            ≡ names_of_item name.now (counted counts.place counts.size) t)) }
-        ensures there { IfOk result (λ is_done. is_done ≡ true → IsSome (item_in array.now place)) }
-        ensures named { self.new.name ≡ self.old.name }
-        ensures unchanged { IfOk result (λ is_done. is_done ≡ false → self.new ≡ self.old) }
-        ensures refused { OnErr result (self.new ≡ self.old) }
+    ) -> Result<Box<LoopFrame>, AllocError>
+        ensures { IfOk result (λ frame. loop_names frame.value
+            ≡ names_of_item name.now (forloop counts.place counts.size) (item_tree item)) }
     {
-        if self.name.as_str() != name {
-            return Ok(false);
-        }
-        match Listed::at(array, place)? {
-            Some(listed) => {
-                self.item = LoopItem::Listed(listed);
-                self.counts = counts;
-                Ok(true)
+        if let Some(mut frame) = used {
+            if frame.name.as_str() == name {
+                frame.item = item;
+                frame.counts = counts;
+                return Ok(frame);
             }
-            None => Ok(false),
         }
-    }
-
-    /// Writes the turn of a number over that of the last one, if the loop has this name. Otherwise it returns `false`, and
-    /// changes nothing.
-    pub fn renew_number(&mut self, name: &str, number: RangeNumber, counts: Counts) -> bool
-        ensures renewed { result ≡ true → loop_names self.new
-            ≡ names_of_item name.now (counted counts.place counts.size) (scalar (integer number.value)) }
-        ensures named { self.new.name ≡ self.old.name }
-        ensures unchanged { result ≡ false → self.new ≡ self.old }
-    {
-        if self.name.as_str() != name {
-            return false;
-        }
-        self.item = LoopItem::Own(Value::scalar(number.value));
-        self.counts = counts;
-        true
+        let name = String::from_str(alloc, name)?;
+        Box::new(alloc, LoopFrame { name, item, counts })
     }
 
     /// Returns the loop's name, which is one of the two names of its frame.
@@ -254,7 +223,11 @@ impl LoopFrame {
         ensures { IfOk result (λ names. names_of names ≡ loop_names self.now) }
     {
         let mut names = no_names(alloc);
-        bind(&mut names, String::from_str(alloc, "forloop")?, self.counts.to_value(alloc)?)?;
+        bind(
+            &mut names,
+            String::from_str(alloc, "forloop")?,
+            self.counts.to_value(alloc)?,
+        )?;
         bind(&mut names, self.name.clone()?, self.item.get().clone()?)?;
         Ok(names)
     }
@@ -267,14 +240,14 @@ impl LoopFrame {
         if name == self.name.as_str() {
             Some(Seen::Lent(self.item.get()))
         } else {
-            self.counted(name)
+            self.forloop_of(name)
         }
     }
 
     /// Returns what the name `forloop` gives.
-    fn counted(&self, name: &str) -> Option<Seen<'_>>
+    fn forloop_of(&self, name: &str) -> Option<Seen<'_>>
         ensures { option_map seen_tree result
-            ≡ cond (bytes_eq name.now (codes "forloop")) (Some (counted self.now.counts.place self.now.counts.size)) None }
+            ≡ cond (bytes_eq name.now (codes "forloop")) (Some (forloop self.now.counts.place self.now.counts.size)) None }
     {
         if name == "forloop" {
             Some(Seen::Loop(self.counts))

@@ -4,7 +4,7 @@ ghost use Rattle.std.specs.Borrow.{sem, LendsIf};
 ghost use denote.Ref.{at_last};
 ghost use Rattle.liquid_error.specs.meaning.Told.{told, Gives};
 ghost use Rattle.liquid_paths.specs.meaning.Walk.{walk, find_after};
-ghost use Rattle.liquid_runtime.specs.meaning.LoopNames.{counted, seen_tree};
+ghost use Rattle.liquid_runtime.specs.meaning.LoopNames.{forloop, seen_tree};
 ghost use Rattle.liquid_runtime.specs.meaning.Made.{InPlaceOrMade, OfLoop};
 ghost use Rattle.liquid_paths.specs.meaning.PathOf.{indexes_of};
 ghost use Rattle.liquid_value.specs.meaning.View.{view as tree_of};
@@ -280,7 +280,7 @@ fn loop_part(
     counts: Counts,
     path: &[ScalarCow<'_>],
 ) -> Result<Option<Value>, AllocError>
-    ensures { IfOk result (λ part. option_map tree_of part ≡ walk (counted counts.place counts.size) (indexes_of path.now)) }
+    ensures { IfOk result (λ part. option_map tree_of part ≡ walk (forloop counts.place counts.size) (indexes_of path.now)) }
 {
     let object = counts.to_value(alloc)?;
     match try_find(alloc, &object, path)? {
@@ -312,7 +312,7 @@ fn find_after_seen<'v>(
 #[tactic(auto, using(crate::proofs::LoopLaws::leads_from))]
 fn loop_part_after(alloc: Global, counts: Counts, path: &[ScalarCow<'_>]) -> Result<Value, Error>
     ensures gives { Gives tree_of result
-        (find_after (indexes_of (take 1 path.now)) (counted counts.place counts.size) (indexes_of (drop 1 path.now))) }
+        (find_after (indexes_of (take 1 path.now)) (forloop counts.place counts.size) (indexes_of (drop 1 path.now))) }
     ensures of_loop { IfOk result (λ part. OfLoop (tree_of part)) }
 {
     let object = counts.to_value(alloc)?;

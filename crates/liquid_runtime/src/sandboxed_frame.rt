@@ -5,8 +5,8 @@ ghost use Rattle.liquid_runtime.specs.meaning.Frames.{begin_sandboxed, restored_
 ghost use Rattle.liquid_runtime.specs.steps.FrameViews.{sandboxed_with};
 ghost use Rattle.liquid_runtime.specs.meaning.Maps.{names_of};
 
-use crate::names::{add_names, own_name, seen_of, value_of};
 use crate::loop_frame::Seen;
+use crate::names::{add_names, own_name, seen_of, value_of};
 use crate::registers::Registers;
 use crate::runtime::Runtime;
 use liquid_error::Error;

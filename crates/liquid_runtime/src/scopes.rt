@@ -1,15 +1,12 @@
 //! Frames as values, and runtimes on which they are pushed and popped.
-ghost use Rattle.std.specs.Prelude.{◌≡◌, ℕ, List, [], ◌∷◌, ◌<◌, length, None, IfErr, true, false, OnOk, OnErr};
+ghost use Rattle.std.specs.Prelude.{◌≡◌, ℕ, List, [], ◌∷◌, ◌<◌, length, None, IfErr, OnOk, OnErr};
 ghost use Rattle.liquid_error.specs.meaning.Told.{told};
 ghost use Rattle.liquid_runtime.specs.meaning.View.{View};
-ghost use Rattle.liquid_runtime.specs.meaning.Frames.{Restore, scope_base, beginning, restored_by, stack_frame};
-ghost use Rattle.liquid_runtime.specs.meaning.OpenFrames.{opened, EndsFirst, Follows};
+ghost use Rattle.liquid_runtime.specs.meaning.Frames.{Restore, scope_base, beginning, restored_by};
+ghost use Rattle.liquid_runtime.specs.meaning.OpenFrames.{opened, EndsFirst};
 ghost use Rattle.liquid_runtime.specs.meaning.Calls.{frame_of};
-ghost use Rattle.liquid_runtime.specs.meaning.LoopNames.{counted, names_of_item};
-ghost use Rattle.liquid_scalar.specs.meaning.Scalar.{integer};
-ghost use Rattle.liquid_value.specs.meaning.Tree.{scalar};
 
-use crate::loop_frame::{Counts, LoopFrame, RangeNumber};
+use crate::loop_frame::LoopFrame;
 use crate::registers::Fresh;
 use crate::runtime::Runtime;
 use liquid_error::Error;
@@ -72,20 +69,6 @@ pub trait Scopes: Runtime {
     {
         self.pop();
         None
-    }
-
-    /// Ends the frame that was begun last and begins that of a loop's next number, if the frame is one of a loop of this
-    /// name. Otherwise it returns `false` and changes nothing. It takes no memory.
-    fn next_number(&mut self, name: &str, number: RangeNumber, counts: Counts) -> bool
-        ensures follows { result ≡ true → Follows Self.Register.fresh
-            (stack_frame (names_of_item name.now (counted counts.place counts.size) (scalar (integer number.value))) None)
-            (Self.restores self.old) (Self.view self.old) (Self.restores self.new) (Self.view self.new) }
-        ensures unchanged { result ≡ false → Self.view self.new ≡ Self.view self.old }
-        ensures owes { result ≡ false → Self.restores self.new ≡ Self.restores self.old }
-        ensures store { Self.store self.new ≡ Self.store self.old }
-        ensures borrows { Self.lent self.new ≡ Self.lent self.old }
-    {
-        false
     }
 
     /// Returns the number of open frames.

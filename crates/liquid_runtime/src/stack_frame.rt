@@ -4,8 +4,8 @@ ghost use Rattle.liquid_runtime.specs.meaning.Calls.{named};
 ghost use Rattle.liquid_runtime.specs.meaning.Frames.{begin_stack, restored_by, stack_frame};
 ghost use Rattle.liquid_runtime.specs.meaning.Maps.{names_of};
 
-use crate::names::{add_names, own_name, seen_of, value_of};
 use crate::loop_frame::Seen;
+use crate::names::{add_names, own_name, seen_of, value_of};
 use crate::registers::Registers;
 use crate::runtime::Runtime;
 use liquid_error::Error;

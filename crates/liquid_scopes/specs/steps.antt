@@ -2,4 +2,3 @@ pub mod Layers
 pub mod LinkLayers
 pub mod NamePlaces
 pub mod Standing
-pub mod Renewals

@@ -11,7 +11,7 @@ ghost use Rattle.liquid_scopes.specs.steps.LinkLayers.{layers_of};
 use crate::link::{closing, opening};
 use crate::table::{Table, look_up};
 use liquid_error::Error;
-use liquid_runtime::{Counts, Frame, LoopFrame, RangeNumber, Registers, Runtime, Scopes, Seen, find_seen};
+use liquid_runtime::{Frame, LoopFrame, Registers, Runtime, Scopes, Seen, find_seen};
 use liquid_scalar::ScalarCow;
 use liquid_value::{Value, ValueCow};
 use std::alloc::{AllocError, Global};
@@ -230,10 +230,6 @@ impl<R: Runtime> Scopes for FlatScopes<R> {
             Some(link) => closing(&mut self.base, link),
             None => None,
         }
-    }
-
-    fn next_number(&mut self, name: &str, number: RangeNumber, counts: Counts) -> bool {
-        self.table.renew(name, number, counts)
     }
 
     fn frames(&self) -> usize {

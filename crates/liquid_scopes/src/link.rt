@@ -29,10 +29,7 @@ ghost use Rattle.liquid_value.specs.meaning.View.{view as tree_of};
 ghost use Rattle.liquid_runtime.specs.meaning.View.{View};
 ghost use Rattle.liquid_runtime.specs.meaning.Maps.{names_of, over};
 ghost use Rattle.liquid_runtime.specs.meaning.Roots.{NamesOf};
-ghost use Rattle.liquid_runtime.specs.meaning.LoopNames.{counted, loop_names, names_of_item, seen_tree};
-ghost use Rattle.liquid_scalar.specs.meaning.Scalar.{integer};
-ghost use Rattle.liquid_value.specs.meaning.Tree.{scalar};
-ghost use Rattle.liquid_scopes.specs.steps.Renewals.{Renews};
+ghost use Rattle.liquid_runtime.specs.meaning.LoopNames.{loop_names, seen_tree};
 ghost use Rattle.liquid_runtime.specs.meaning.Frames.{beginning, restored_by, ending};
 ghost use Rattle.liquid_runtime.specs.meaning.Calls.{frame_of, registers_of, with_registers};
 ghost use Rattle.liquid_scopes.specs.steps.Layers.{layer_name, layer_view, layer_restores, is_global, assigned, assigning, LayerNames};
@@ -43,7 +40,7 @@ use crate::flat_scopes::Count;
 use crate::index::Index;
 use liquid_error::Error;
 use liquid_runtime::names::{add_names, only_names, own_name, seen_of, set_name, value_of};
-use liquid_runtime::{Counts, Frame, LoopFrame, RangeNumber, Registers, Runtime, Seen};
+use liquid_runtime::{Frame, LoopFrame, Registers, Runtime, Seen};
 use liquid_value::{Object, Value};
 use std::alloc::{AllocError, Global};
 use std::collections::BTreeSet;
@@ -198,19 +195,6 @@ impl<V> Link<V> {
         }
     }
 
-    // Writes the next number of a loop of this name over the last one, if the link is of such a loop.
-    #[inline(always)]
-    pub(crate) fn renew(&mut self, name: &str, number: RangeNumber, counts: Counts) -> bool
-        ensures renews { result ≡ true → Renews (names_of_item name.now (counted counts.place counts.size) (scalar (integer number.value)))
-            (layer_of self.old) (layer_of self.new) }
-        ensures unchanged { result ≡ false → layer_of self.new ≡ layer_of self.old }
-    {
-        match self {
-            Link::Loop(frame) => frame.renew_number(name, number, counts),
-            _ => false,
-        }
-    }
-
     pub(crate) fn is_sandboxed(&self) -> bool
         ensures { result ≡ is_sandboxed (layer_of self.now) }
     {
@@ -283,12 +267,7 @@ fn first_seen<'a>(first: &'a Object, second: &'a Object, name: &str) -> Option<S
 }
 
 // Records that the frame of a loop gives its two names a value. If memory runs out, one of them may be recorded.
-fn note_loop(
-    index: &mut Index,
-    alloc: Global,
-    frame: &LoopFrame,
-    place: usize,
-) -> Result<(), Error>
+fn note_loop(index: &mut Index, alloc: Global, frame: &LoopFrame, place: usize) -> Result<(), Error>
     ensures noted { OnOk result (Noted (λ q. is_some (get (loop_names frame.now) q)) place index.old.places index.new.places) }
     ensures partly { PartlyNoted (λ q. is_some (get (loop_names frame.now) q)) place index.old.places index.new.places }
 {

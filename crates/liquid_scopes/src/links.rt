@@ -1,6 +1,6 @@
 //! What links over one another show, the oldest first, given what is shown below them, and a value set in one of them.
-ghost use Rattle.std.specs.Prelude.{◌≡◌, ◌&&◌, ◌||◌, ℕ, List, true, false, nat_eq, bytes_eq, is_none, map};
-ghost use Rattle.std.specs.Prelude.{IfOk, IfNone, IfSome, OnOk, OnErr, option_map, string_bytes};
+ghost use Rattle.std.specs.Prelude.{◌≡◌, ◌&&◌, ◌||◌, ℕ, List, false, nat_eq, bytes_eq, is_none, map};
+ghost use Rattle.std.specs.Prelude.{IfOk, OnOk, OnErr, option_map, string_bytes};
 ghost use Rattle.liquid_error.specs.meaning.Told.{Gives};
 ghost use Rattle.liquid_value.specs.meaning.View.{view as tree_of};
 ghost use Rattle.liquid_runtime.specs.meaning.Frames.{Restore};
@@ -10,16 +10,12 @@ ghost use Rattle.liquid_scopes.specs.steps.Standing.{Forgotten, own_at, has_at, 
 ghost use Rattle.liquid_runtime.specs.meaning.View.{View};
 ghost use Rattle.liquid_runtime.specs.meaning.NamesSeen.{names_seen};
 ghost use Rattle.liquid_runtime.specs.meaning.Roots.{NamesOf};
-ghost use Rattle.liquid_runtime.specs.meaning.LoopNames.{counted, names_of_item};
-ghost use Rattle.liquid_scalar.specs.meaning.Scalar.{integer};
-ghost use Rattle.liquid_value.specs.meaning.Tree.{scalar};
-ghost use Rattle.liquid_scopes.specs.steps.Renewals.{RenewsLast};
 ghost use Rattle.liquid_scopes.specs.steps.LinkLayers.{layer_of, layers_of, view_over};
 
 use crate::index::Index;
 use crate::link::Link;
 use liquid_error::Error;
-use liquid_runtime::{Counts, Fresh, RangeNumber};
+use liquid_runtime::Fresh;
 use liquid_value::Value;
 use std::alloc::{AllocError, Global};
 use std::collections::BTreeSet;
@@ -88,23 +84,4 @@ pub(crate) fn put<V: Fresh>(
     ensures unchanged { OnErr result (map layer_of links.new.items ≡ map layer_of links.old.items) }
 {
     links[place].assign(name, value)
-}
-
-// Writes the next number of a loop of this name over the last one, if the last link is of such a loop.
-#[inline(always)]
-pub(crate) fn renew_last<V: Fresh>(
-    links: &mut Vec<Link<V>>,
-    name: &str,
-    number: RangeNumber,
-    counts: Counts,
-) -> bool
-    ensures renews { result ≡ true → RenewsLast (names_of_item name.now (counted counts.place counts.size) (scalar (integer number.value)))
-        (layers_of links.old.items) (layers_of links.new.items) }
-    ensures unchanged { result ≡ false → layers_of links.new.items ≡ layers_of links.old.items }
-{
-    let count = links.len();
-    if count == 0 {
-        return false;
-    }
-    links[count - 1].renew(name, number, counts)
 }

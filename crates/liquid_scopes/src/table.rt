@@ -8,10 +8,7 @@ ghost use Rattle.liquid_runtime.specs.meaning.View.{View};
 ghost use Rattle.liquid_runtime.specs.meaning.Frames.{Restore};
 ghost use Rattle.liquid_runtime.specs.meaning.NamesSeen.{lookup, names_seen, comes_from_seal};
 ghost use Rattle.liquid_runtime.specs.meaning.Roots.{NamesOf};
-ghost use Rattle.liquid_runtime.specs.meaning.LoopNames.{counted, names_of_item, seen_tree};
-ghost use Rattle.liquid_scalar.specs.meaning.Scalar.{integer};
-ghost use Rattle.liquid_value.specs.meaning.Tree.{scalar};
-ghost use Rattle.liquid_scopes.specs.steps.Renewals.{RenewsLast};
+ghost use Rattle.liquid_runtime.specs.meaning.LoopNames.{seen_tree};
 ghost use Rattle.liquid_runtime.specs.meaning.Sets.{old_global, put_global};
 ghost use Rattle.liquid_scopes.specs.steps.Layers.{restoring, is_global, LastGlobal, GlobalAt};
 ghost use Rattle.liquid_scopes.specs.steps.LinkLayers.{layer_of, layers_of, view_over};
@@ -22,10 +19,10 @@ ghost use Rattle.liquid_scopes.specs.steps.NamePlaces.{TopOf};
 use crate::flat_scopes::Count;
 use crate::index::Index;
 use crate::link::Link;
-use crate::links::{forget_absent, name_over, put, renew_last, roots_over};
+use crate::links::{forget_absent, name_over, put, roots_over};
 use crate::place::{drop_place, is_at, is_under, keep_place, last_of};
 use liquid_error::Error;
-use liquid_runtime::{Counts, Fresh, RangeNumber, Runtime, Seen};
+use liquid_runtime::{Fresh, Runtime, Seen};
 use liquid_value::Value;
 use std::alloc::{AllocError, Global};
 use std::collections::BTreeSet;
@@ -289,16 +286,6 @@ impl<V: Fresh> Table<V> {
             }
             None => None,
         }
-    }
-
-    // Writes the next number of a loop of this name over the last one, if the last frame is of such a loop.
-    #[inline(always)]
-    pub(crate) fn renew(&mut self, name: &str, number: RangeNumber, counts: Counts) -> bool
-        ensures renews { result ≡ true → RenewsLast (names_of_item name.now (counted counts.place counts.size) (scalar (integer number.value)))
-            (layers_of self.old.links.items) (layers_of self.new.links.items) }
-        ensures unchanged { result ≡ false → layers_of self.new.links.items ≡ layers_of self.old.links.items }
-    {
-        renew_last(&mut self.links, name, number, counts)
     }
 
     // Gives a name a value in the global frame at this place.

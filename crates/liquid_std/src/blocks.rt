@@ -9,7 +9,8 @@ use liquid_conditions::branches::CaseShape;
 use liquid_conditions::condition::ConditionShape;
 use liquid_conditions::{Case, Condition, part_case, part_if, part_unless};
 use liquid_core::parser::{Bytes, ListOf, Meant};
-use liquid_core::{Discreet, Error, Frame, Object, Renderable, Runtime, Turn};
+use liquid_core::runtime::LoopFrame;
+use liquid_core::{Discreet, Error, Frame, Renderable, Runtime, Turn};
 use liquid_cycle::{HoldsMarks, changed_turn};
 use liquid_loops::loops::LoopShape;
 use liquid_loops::tables::TableShape;
@@ -166,9 +167,9 @@ impl<V: HoldsMarks> Renderable<V> for StdBlock {
         }
     }
 
-    fn recycle(&self, progress: &mut StdProgress, names: Object) {
+    fn recycle(&self, progress: &mut StdProgress, frame: Box<LoopFrame>) {
         match progress {
-            StdProgress::Rounds(rounds) => rounds.recycle(names),
+            StdProgress::Rounds(rounds) => rounds.recycle(frame),
             StdProgress::Once(_) | StdProgress::Table(_) | StdProgress::Capturing(_) => {}
         }
     }

@@ -16,7 +16,6 @@ use Rattle.std.proofs.Common.{
   ◌∷◌,
   None,
   Some,
-  option_map,
   map,
   length,
   drop,
@@ -29,10 +28,15 @@ use Rattle.std.proofs.Common.{
 }
 use Rattle.std.specs.Prelude.{slice_get}
 use Rattle.std.proofs.lemmas.List.{length-drop, length-map}
-use Rattle.std.proofs.lemmas.Option.{none-some, slice_get-map}
+use Rattle.std.proofs.lemmas.Option.{none-some}
+use Rattle.std.proofs.Common.{Global}
+use Rattle.std.specs.Global.{Vec}
+use Rattle.std.specs.declared.rc.Rc.{Rc}
 use Rattle.liquid_scalar.specs.meaning.Scalar.{integer}
-use Rattle.liquid_value.specs.meaning.Tree.{Items, scalar}
-use Rattle.liquid_value.specs.meaning.View.{view, items_view}
+use Rattle.liquid_value.specs.meaning.Tree.{scalar}
+use Rattle.liquid_value.specs.meaning.View.{view, array_view}
+use Rattle.liquid_value.specs.declared.shared_array.SharedArray.{Own, Shared}
+use Rattle.liquid_value.proofs.SharedLemmas.{items-Own, items-Shared}
 use Rattle.liquid_value.specs.declared.value.Value.{Value}
 use Rattle.liquid_tags.specs.meaning.Series.{counted, trees}
 use Rattle.liquid_tags.proofs.SeriesLemmas.{trees_of}
@@ -42,7 +46,7 @@ counted_size from zero = refl
 counted_size from (suc n) = ap suc (counted_size (from +ℤ pos 1) n)
 
 -- what is at a place is the first of what is left from there
-at_place : {A : Type 0} (xs : List A) (place : ℕ) → slice_get (drop place xs) 0 ≡ slice_get xs place
+pub at_place : {A : Type 0} (xs : List A) (place : ℕ) → slice_get (drop place xs) 0 ≡ slice_get xs place
 at_place xs zero = refl
 at_place [] (suc place) = refl
 at_place (x ∷ xs) (suc place) = at_place xs place
@@ -55,7 +59,7 @@ rest_past (x ∷ xs) (suc place) = rest_past xs place
 pub rest_after : {A : Type 0} (xs : List A) (place : ℕ) → drop (place + 1) xs ≡ drop 1 (drop place xs)
 rest_after xs place = ap (λ n. drop n xs) (add-one place) ∙ rest_past xs place
 
-none_after : {A : Type 0} (xs : List A) (place : ℕ) → slice_get xs place ≡ None → drop place xs ≡ drop 1 (drop place xs)
+pub none_after : {A : Type 0} (xs : List A) (place : ℕ) → slice_get xs place ≡ None → drop place xs ≡ drop 1 (drop place xs)
 none_after [] zero none = refl
 none_after [] (suc place) none = refl
 none_after (x ∷ xs) zero none = absurd (none-some x (sym none))
@@ -69,24 +73,19 @@ placed (x ∷ xs) (suc place) at zero e = absurd (omega arith)
 placed (x ∷ xs) (suc place) at (suc sum) e = placed xs place at sum (omega arith)
 
 -- the trees of a list of values, from a place on
-module _ (values : List Value) (items : Items) (place : ℕ) (e : items_view values ≡ items) where
-  viewed : trees items ≡ map view values
-  viewed = ap trees (sym e) ∙ trees_of (map view values)
+pub left_count : (values : List Value) (place : ℕ) → length (drop place (map view values)) ≡ length values - place
+left_count values place = length-drop place (map view values) ∙ ap (λ n. n - place) (length-map values view)
 
-  at_item : slice_get (trees items) place ≡ option_map view (slice_get values place)
-  at_item = ap (λ ts. slice_get ts place) viewed ∙ slice_get-map view values place
+pub left_at : (values : List Value) (place at sum : ℕ) → sum ≡ place + at
+    → slice_get (drop place (map view values)) at ≡ slice_get (map view values) sum
+left_at values place at sum is = placed (map view values) place at sum is
 
-  pub left_count : length (drop place (trees items)) ≡ length values - place
-  left_count = length-drop place (trees items) ∙ ap (λ n. n - place) (ap length viewed ∙ length-map values view)
+-- the items of an array of its own, and of one that is shared
+pub own_trees : (array : Vec Value) → trees (array_view (Own array)) ≡ map view array.items
+own_trees array = ap trees (items-Own array) ∙ trees_of (map view array.items)
 
-  pub first_left : slice_get (drop place (trees items)) 0 ≡ option_map view (slice_get values place)
-  first_left = at_place (trees items) place ∙ at_item
-
-  pub left_at : (at sum : ℕ) → sum ≡ place + at → slice_get (drop place (trees items)) at ≡ option_map view (slice_get values sum)
-  left_at at sum is = placed (trees items) place at sum is ∙ ap (λ ts. slice_get ts sum) viewed ∙ slice_get-map view values sum
-
-  pub none_left : slice_get values place ≡ None → drop place (trees items) ≡ drop 1 (drop place (trees items))
-  none_left none = none_after (trees items) place (at_item ∙ ap (option_map view) none)
+pub shared_trees : (array : Rc (Vec Value) Global) → trees (array_view (Shared array)) ≡ map view array.value.items
+shared_trees array = ap trees (items-Shared array) ∙ trees_of (map view array.value.items)
 
 -- the first of that many numbers, and those after it
 counted_first : (from : ℤ) (size following : ℕ) → size ≡ following + 1 → counted from size ≡ scalar (integer from)

@@ -4,8 +4,6 @@ pub mod ItemLemmas
 pub mod LoopRunLemmas
 pub mod PageLemmas
 pub mod PairLemmas
-pub mod ReuseLemmas
 pub mod SandboxLemmas
 pub mod SeriesLemmas
 pub mod SeriesTokens
-pub mod Writes

@@ -1,3 +1,2 @@
 pub mod meaning
 pub mod laws
-pub mod steps

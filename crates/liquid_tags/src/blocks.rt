@@ -10,7 +10,8 @@ use crate::for_block::series::{Series, SeriesShape, items_of};
 use crate::for_block::turns::loop_turn;
 use crate::if_block::condition::{Condition, ConditionShape, chosen};
 use liquid_core::parser::{Bytes, ListOf, Meant};
-use liquid_core::{Discreet, Error, Frame, Fresh, Object, Renderable, Runtime, Turn};
+use liquid_core::runtime::LoopFrame;
+use liquid_core::{Discreet, Error, Frame, Fresh, Renderable, Runtime, Turn};
 use std::alloc::{AllocError, Global};
 
 /// What a block is made into.
@@ -113,9 +114,9 @@ impl<V: Fresh> Renderable<V> for BlockNode {
         }
     }
 
-    fn recycle(&self, progress: &mut BlockProgress, names: Object) {
+    fn recycle(&self, progress: &mut BlockProgress, frame: Box<LoopFrame>) {
         match progress {
-            BlockProgress::Loop(rounds) => rounds.names = Some(names),
+            BlockProgress::Loop(rounds) => rounds.frame = Some(frame),
             BlockProgress::Once(_) => {}
         }
     }
@@ -145,8 +146,7 @@ fn over_items(alloc: Global, items: Items) -> Result<BlockProgress, AllocError>
                 place: 0,
                 size,
                 turns,
-                kept: None,
-                names: None,
+                frame: None,
             };
             Ok(BlockProgress::Loop(Box::new(alloc, rounds)?))
         }

@@ -19,7 +19,7 @@ pub mod tags;
 
 pub use block_plugins::{BlockPlan, Blocks};
 pub use blocks::{BlockNode, BlockProgress};
-pub use for_block::items::{Items, Numbers};
+pub use for_block::items::{ArrayItems, Items, RangeItems};
 pub use for_block::rounds::Rounds;
 pub use for_block::series::Series;
 pub use if_block::condition::{Comparison, Condition};

@@ -27,7 +27,7 @@ pub(crate) fn open_text<P, O: Out>(alloc: Global, going: &mut Going<P>, out: &mu
     going.outer = out.open(alloc);
 }
 
-/// Ends the last frame, if one is open, and gives the node its object back, puts the turn's trace on an error, and
+/// Ends the last frame, if one is open, and gives the node back that of a loop, puts the turn's trace on an error, and
 /// returns whether there is none.
 #[inline(never)]
 pub(crate) fn end_turn<N, S>(
@@ -49,8 +49,8 @@ where
     ensures borrows { S.lent scopes.new ≡ S.lent scopes.old }
 {
     if scopes.frames() > 0 {
-        if let Some(names) = scopes.pop_names() {
-            node.recycle(&mut going.progress, names);
+        if let Some(frame) = scopes.pop_loop() {
+            node.recycle(&mut going.progress, frame);
         }
     }
     match answer {

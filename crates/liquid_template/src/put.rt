@@ -4,6 +4,7 @@ ghost use Rattle.std.specs.Cow.{cow_str_bytes};
 ghost use Rattle.liquid_error.specs.meaning.Told.{Gives};
 ghost use Rattle.liquid_value.specs.meaning.View.{view as tree_of};
 ghost use Rattle.liquid_value.specs.meaning.Render.{render};
+ghost use Rattle.liquid_runtime.specs.meaning.LoopNames.{forloop};
 ghost use Rattle.liquid_plugins.specs.meaning.Chain.{chain_value};
 ghost use Rattle.liquid_plugins.specs.meaning.ExpressionOf.{chain_of};
 ghost use Rattle.liquid_plugins.specs.meaning.NodesOf.{name_chain};
@@ -15,7 +16,7 @@ ghost use Rattle.liquid_template.specs.steps.Place.{target, around};
 use crate::outlet::Out;
 use liquid_error::Error;
 use liquid_plugins::{Filter, FilterChain, named_value};
-use liquid_runtime::Runtime;
+use liquid_runtime::{Counts, Runtime, Seen};
 use liquid_scalar::ScalarOf;
 use liquid_value::Value;
 use liquid_value::render::ValueRender;
@@ -73,6 +74,19 @@ fn put_value<O: Out>(alloc: Global, value: &Value, out: &mut O, answer: &mut Res
     }
 }
 
+/// Puts out the object `forloop`.
+#[inline(never)]
+fn put_loop<O: Out>(alloc: Global, counts: Counts, out: &mut O, answer: &mut Result<(), Error>)
+    requires { IsOk answer.old }
+    ensures out { ValueOut (render (forloop counts.place counts.size)) (target (O.place out.old)) (target (O.place out.new)) answer.new }
+    ensures around { around (O.place out.new) ≡ around (O.place out.old) }
+{
+    match counts.to_value(alloc) {
+        Ok(value) => put_value(alloc, &value, out, answer),
+        Err(_) => *answer = Err(Error::Memory),
+    }
+}
+
 /// Puts out the value of a chain.
 #[inline(never)]
 pub(crate) fn put_chain<X, R, O>(
@@ -118,7 +132,8 @@ where
     ensures around { around (O.place out.new) ≡ around (O.place out.old) }
 {
     match named_value(name, runtime) {
-        Some(value) => put_value(alloc, value, out, answer),
+        Some(Seen::Lent(value)) => put_value(alloc, value, out, answer),
+        Some(Seen::Loop(counts)) => put_loop(alloc, counts, out, answer),
         None => {
             let made: Result<FilterChain<X>, AllocError> = FilterChain::of_name(alloc, name);
             match made {

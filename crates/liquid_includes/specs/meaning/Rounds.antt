@@ -16,7 +16,7 @@ use Rattle.liquid_plugins.specs.meaning.Turning.{answers}
 use Rattle.liquid_plugins.specs.meaning.Turns.{TurnShape, end_turn, partial_turn, Answered}
 use Rattle.liquid_tags.specs.declared.partial_call.call.Inclusion.{Inclusion}
 use Rattle.liquid_tags.specs.declared.partial_call.call.Inclusion.TheVariants.{Include, Render}
-use Rattle.liquid_tags.specs.meaning.Loops.{forloop}
+use Rattle.liquid_runtime.specs.meaning.LoopNames.{forloop}
 use Rattle.liquid_tags.specs.meaning.Partials.{Pair, partial_name, word_of}
 use Rattle.liquid_includes.specs.declared.calls.PartialCallShape.{PartialCallShape}
 use Rattle.liquid_includes.specs.declared.rounds.CallRounds.{CallRounds}

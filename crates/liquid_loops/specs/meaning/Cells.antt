@@ -4,7 +4,7 @@ use Rattle.std.specs.Fmt.{decimal}
 use Rattle.liquid_scalar.specs.meaning.Scalar.{integer, boolean}
 use Rattle.liquid_value.specs.meaning.Members.{put_member}
 use Rattle.liquid_value.specs.meaning.Tree.{Tree, scalar, object, Members}
-use Rattle.liquid_tags.specs.meaning.Loops.{forloop_members}
+use Rattle.liquid_runtime.specs.meaning.LoopNames.{forloop_members}
 
 -- the row and the column of the item at a place; these count from 1, and places from 0. Without columns there is one row
 abbrev pub row_at : ℕ → ℕ → ℕ

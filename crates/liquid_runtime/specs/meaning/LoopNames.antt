@@ -1,9 +1,5 @@
 -- The names of a loop's turn: the item under the loop's name, and what `forloop` says.
-use Rattle.std.specs.Prelude.{ℕ, ◌+◌, ◌-◌, ◌==◌, List, codes, pos, get_or, string_bytes, Option, map, slice_get}
-use Rattle.std.specs.declared.alloc.Global.{Global}
-use Rattle.std.specs.declared.rc.Rc.{Rc}
-use Rattle.std.specs.declared.vec.Vec.{Vec}
-use Rattle.liquid_value.specs.declared.value.Value.{Value}
+use Rattle.std.specs.Prelude.{ℕ, ◌+◌, ◌-◌, ◌==◌, List, codes, pos, get_or, string_bytes}
 use Rattle.std.specs.FinMap.{empty, insert}
 use Rattle.liquid_scalar.specs.meaning.Scalar.{integer, boolean}
 use Rattle.liquid_value.specs.meaning.Tree.{Tree, scalar, object, Members, no_members, member}
@@ -22,8 +18,8 @@ abbrev pub place_tree : ℕ → Tree
 place_tree n = scalar (integer (pos n))
 
 -- the members of `forloop` for the item at a place, where places count from 0
-abbrev pub counted_members : ℕ → ℕ → Members
-counted_members place size =
+abbrev pub forloop_members : ℕ → ℕ → Members
+forloop_members place size =
     member (codes "first") (scalar (boolean (place == 0))) (
     member (codes "index") (place_tree (place + 1)) (
     member (codes "index0") (place_tree place) (
@@ -32,8 +28,8 @@ counted_members place size =
     member (codes "rindex") (place_tree (size - place)) (
     member (codes "rindex0") (place_tree (size - (place + 1))) no_members))))))
 
-abbrev pub counted : ℕ → ℕ → Tree
-counted place size = object (counted_members place size)
+abbrev pub forloop : ℕ → ℕ → Tree
+forloop place size = object (forloop_members place size)
 
 -- the names of a turn: `forloop`, and the loop's own name, which wins
 abbrev pub names_of_item : List ℕ → Tree → Tree → Names
@@ -49,13 +45,9 @@ item_tree (item.Own value) = view value
 
 -- the names of a loop's frame
 abbrev pub loop_names : LoopFrame → Names
-loop_names l = names_of_item (string_bytes l.name) (counted l.counts.place l.counts.size) (item_tree l.item)
+loop_names l = names_of_item (string_bytes l.name) (forloop l.counts.place l.counts.size) (item_tree l.item)
 
 -- what was found under a name
 abbrev pub seen_tree : Seen → Tree
 seen_tree (Lent value) = view value.now
-seen_tree (Loop counts) = counted counts.place counts.size
-
--- the item at a place of a shared array, if it is there
-abbrev pub item_in : Rc (Vec Value Global) Global → ℕ → Option Tree
-item_in array place = slice_get (map (λ v. view v) array.value.items) place
+seen_tree (Loop counts) = forloop counts.place counts.size

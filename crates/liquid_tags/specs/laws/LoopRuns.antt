@@ -4,6 +4,7 @@ use Rattle.liquid_value.specs.meaning.Tree.{Tree}
 use Rattle.liquid_runtime.specs.declared.registers.Interrupt.{Interrupt}
 use Rattle.liquid_runtime.specs.declared.registers.Interrupt.TheVariants.{Break}
 use Rattle.liquid_runtime.specs.meaning.Frames.{stack_frame}
+use Rattle.liquid_runtime.specs.meaning.LoopNames.{forloop, names_of_item}
 use Rattle.liquid_runtime.specs.meaning.View.{View}
 use Rattle.liquid_plugins.specs.meaning.Chain.{FilterMeaning}
 use Rattle.liquid_plugins.specs.meaning.Nodes.{Parts}
@@ -16,7 +17,6 @@ use Rattle.liquid_tags.specs.declared.blocks.BlockShape.TheVariants.{For}
 use Rattle.liquid_tags.specs.declared.for_block.series.SeriesShape.{SeriesShape}
 use Rattle.liquid_tags.specs.declared.tags.TagShape.{TagShape}
 use Rattle.liquid_tags.specs.meaning.Library.{library}
-use Rattle.liquid_tags.specs.meaning.Loops.{forloop, names_of_item}
 use Rattle.liquid_tags.specs.meaning.Series.{items_of}
 
 -- the view without an interrupt

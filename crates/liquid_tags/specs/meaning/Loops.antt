@@ -20,12 +20,10 @@ use Rattle.std.specs.Prelude.{
   Some,
   Ok,
 }
-use Rattle.std.specs.FinMap.{empty, insert}
-use Rattle.liquid_scalar.specs.meaning.Scalar.{integer, boolean}
-use Rattle.liquid_value.specs.meaning.Tree.{Tree, scalar, object, Members, no_members, member}
+use Rattle.liquid_value.specs.meaning.Tree.{Tree}
 use Rattle.liquid_runtime.specs.declared.registers.Interrupt.{Interrupt}
 use Rattle.liquid_runtime.specs.declared.registers.Interrupt.TheVariants.{Break}
-use Rattle.liquid_runtime.specs.meaning.Maps.{Names}
+use Rattle.liquid_runtime.specs.meaning.LoopNames.{forloop, names_of_item}
 use Rattle.liquid_runtime.specs.meaning.View.{View}
 use Rattle.liquid_runtime.specs.meaning.Frames.{stack_frame}
 use Rattle.liquid_plugins.specs.meaning.Turns.{TurnShape, body_turn, end_turn, Answered}
@@ -37,27 +35,6 @@ use Rattle.liquid_plugins.specs.meaning.Turning.{answers}
 -- the shape of a loop's progress
 abbrev pub rounds_of : Rounds → RoundsShape
 rounds_of r = record { left = items_left r.left; place = r.place; size = r.size; turns = r.turns }
-
-abbrev number : ℕ → Tree
-number n = scalar (integer (pos n))
-
--- the members of `forloop` for the item at a place, where places count from 0
-abbrev pub forloop_members : ℕ → ℕ → Members
-forloop_members place size =
-    member (codes "first") (scalar (boolean (place == 0))) (
-    member (codes "index") (number (place + 1)) (
-    member (codes "index0") (number place) (
-    member (codes "last") (scalar (boolean (place + 1 == size))) (
-    member (codes "length") (number size) (
-    member (codes "rindex") (number (size - place)) (
-    member (codes "rindex0") (number (size - (place + 1))) no_members))))))
-
-abbrev pub forloop : ℕ → ℕ → Tree
-forloop place size = object (forloop_members place size)
-
--- the names of the frame of an item: `forloop` and the loop's own name, which wins
-abbrev pub names_of_item : List ℕ → Tree → Tree → Names
-names_of_item name loop t = insert (insert empty (codes "forloop") loop) name t
 
 -- the turn of the item at a place, or the end if there is none
 abbrev pub item_turn : List ℕ → ℕ → ℕ → Option Tree → TurnShape

@@ -1,14 +1,18 @@
 //! The items that a loop has left.
-ghost use Rattle.std.specs.Prelude.{◌≡◌, drop, length, option_map, slice_get, IfOk, OnOk};
+ghost use Rattle.std.specs.Prelude.{◌≡◌, drop, length, map, option_map, slice_get, IfOk, OnOk};
 ghost use Rattle.liquid_scalar.specs.meaning.Scalar.{integer};
 ghost use Rattle.liquid_value.specs.meaning.Tree.{scalar};
 ghost use Rattle.liquid_value.specs.meaning.View.{view as tree_of};
 ghost use Rattle.liquid_value.specs.meaning.View.{array_view};
+ghost use Rattle.liquid_runtime.specs.meaning.LoopNames.{item_tree, listed_tree};
 ghost use Rattle.liquid_tags.specs.meaning.Series.{counted, trees};
 ghost use Rattle.liquid_tags.specs.meaning.Items.{items_left};
 
+use liquid_core::model::Array;
+use liquid_core::runtime::{Listed, LoopItem};
 use liquid_core::{SharedArray, Value};
-use std::alloc::AllocError;
+use std::alloc::{AllocError, Global};
+use std::rc::Rc;
 
 /// The items that a loop has left.
 ///
@@ -16,38 +20,50 @@ use std::alloc::AllocError;
 #[derive(Drop)]
 pub enum Items {
     /// The items of an array.
-    Listed(Listed),
+    Listed(ArrayItems),
     /// The numbers of a range.
-    Counted(Numbers),
+    Counted(RangeItems),
 }
 
 /// The items of an array from a place on. The array is shared and not copied.
 #[derive(Drop)]
-pub struct Listed {
-    pub(crate) array: SharedArray,
+pub struct ArrayItems {
+    pub(crate) array: Rc<Array>,
     pub(crate) place: usize,
 }
 
 /// That many numbers, from the next one on.
 #[derive(Drop)]
-pub struct Numbers {
+pub struct RangeItems {
     pub(crate) next: i64,
     pub(crate) size: u64,
 }
 
 impl Items {
-    /// Returns the items of an array.
-    pub(crate) fn listed(array: SharedArray) -> Items
-        ensures { items_left result ≡ trees (array_view array) }
+    /// Returns the items of an array, which is moved into memory of its own unless it is shared.
+    #[tactic(auto, using(crate::proofs::ItemLemmas::own_trees, crate::proofs::ItemLemmas::shared_trees))]
+    pub(crate) fn listed(alloc: Global, array: SharedArray) -> Result<Items, AllocError>
+        ensures { IfOk result (λ items. items_left items ≡ trees (array_view array)) }
     {
-        Items::Listed(Listed { array, place: 0 })
+        match array {
+            SharedArray::Own(array) => Items::of_array(alloc, array),
+            SharedArray::Shared(array) => Ok(Items::Listed(ArrayItems { array, place: 0 })),
+        }
+    }
+
+    /// Returns the items of an array.
+    pub(crate) fn of_array(alloc: Global, array: Array) -> Result<Items, AllocError>
+        ensures { IfOk result (λ items. items_left items ≡ map tree_of array.items) }
+    {
+        let array = Rc::new(alloc, array)?;
+        Ok(Items::Listed(ArrayItems { array, place: 0 }))
     }
 
     /// Returns that many numbers, from this one on.
     pub(crate) fn counted(next: i64, size: u64) -> Items
         ensures { items_left result ≡ counted next size }
     {
-        Items::Counted(Numbers { next, size })
+        Items::Counted(RangeItems { next, size })
     }
 
     /// Returns the number of items.
@@ -55,75 +71,88 @@ impl Items {
         ensures { result ≡ length (items_left self.now) }
     {
         match self {
-            Items::Listed(listed) => listed.len() as u64,
+            Items::Listed(items) => items.len() as u64,
             Items::Counted(numbers) => numbers.size,
         }
     }
 
     /// Returns the item at a place, counted from 0, if there is one.
-    pub fn get(&self, place: u64) -> Result<Option<Value>, AllocError>
-        ensures { IfOk result (λ item. option_map tree_of item ≡ slice_get (items_left self.now) place) }
+    pub fn get(&self, place: u64) -> Result<Option<LoopItem>, AllocError>
+        ensures { IfOk result (λ item. option_map item_tree item ≡ slice_get (items_left self.now) place) }
     {
         match self {
-            Items::Listed(listed) => listed.get(place),
-            Items::Counted(numbers) => match numbers.get(place)? {
-                Some(number) => Ok(Some(Value::scalar(number))),
-                None => Ok(None),
-            },
+            Items::Listed(items) => Ok(loop_item(items.get(place)?)),
+            Items::Counted(numbers) => Ok(number_item(numbers.get(place)?)),
         }
     }
 
     /// Removes the first one and returns it, if there is one.
-    pub(crate) fn take_first(&mut self) -> Result<Option<Value>, AllocError>
-        ensures first { IfOk result (λ item. option_map tree_of item ≡ slice_get (items_left self.old) 0) }
+    pub(crate) fn take_first(&mut self) -> Result<Option<LoopItem>, AllocError>
+        ensures first { IfOk result (λ item. option_map item_tree item ≡ slice_get (items_left self.old) 0) }
         ensures rest { OnOk result (items_left self.new ≡ drop 1 (items_left self.old)) }
     {
         match self {
-            Items::Listed(listed) => listed.take_first(),
-            Items::Counted(numbers) => match numbers.take_first()? {
-                Some(number) => Ok(Some(Value::scalar(number))),
-                None => Ok(None),
-            },
+            Items::Listed(items) => Ok(loop_item(items.take_first()?)),
+            Items::Counted(numbers) => Ok(number_item(numbers.take_first()?)),
         }
     }
 }
 
-impl Listed {
+/// Returns an item of an array as that of a turn.
+fn loop_item(listed: Option<Listed>) -> Option<LoopItem>
+    ensures { option_map item_tree result ≡ option_map listed_tree listed }
+{
+    match listed {
+        Some(listed) => Some(LoopItem::Listed(listed)),
+        None => None,
+    }
+}
+
+/// Returns a number as the item of a turn.
+fn number_item(number: Option<i64>) -> Option<LoopItem>
+    ensures { option_map item_tree result ≡ option_map (λ n. scalar (integer n)) number }
+{
+    match number {
+        Some(number) => Some(LoopItem::Own(Value::scalar(number))),
+        None => None,
+    }
+}
+
+impl ArrayItems {
     /// Returns the number of items that are left.
+    #[tactic(auto, using(crate::proofs::ItemLemmas::left_count))]
     fn len(&self) -> usize
-        ensures { result ≡ length (drop self.now.place (trees (array_view self.now.array))) }
+        ensures { result ≡ length (drop self.now.place (map tree_of self.now.array.value.items)) }
     {
-        self.array.as_array().len().saturating_sub(self.place)
+        self.array.len().saturating_sub(self.place)
     }
 
     /// Returns the item at a place, counted from 0, if there is one.
-    fn get(&self, place: u64) -> Result<Option<Value>, AllocError>
-        ensures { IfOk result (λ item. option_map tree_of item
-            ≡ slice_get (drop self.now.place (trees (array_view self.now.array))) place) }
+    #[tactic(auto, using(crate::proofs::ItemLemmas::left_at))]
+    fn get(&self, place: u64) -> Result<Option<Listed>, AllocError>
+        ensures { IfOk result (λ item. option_map listed_tree item
+            ≡ slice_get (drop self.now.place (map tree_of self.now.array.value.items)) place) }
     {
         let Some(at) = (self.place as u64).checked_add(place) else {
             return Err(AllocError);
         };
-        match self.array.as_array().get(at as usize) {
-            Some(item) => {
-                let item = item.clone()?;
-                Ok(Some(item))
-            }
-            None => Ok(None),
-        }
+        Listed::at(&self.array, at as usize)
     }
 
     /// Removes the first item and returns it, if there is one.
-    fn take_first(&mut self) -> Result<Option<Value>, AllocError>
-        ensures first { IfOk result (λ item. option_map tree_of item
-            ≡ slice_get (drop self.old.place (trees (array_view self.old.array))) 0) }
-        ensures rest { OnOk result (drop self.new.place (trees (array_view self.new.array))
-            ≡ drop 1 (drop self.old.place (trees (array_view self.old.array)))) }
+    #[tactic(auto, using(crate::proofs::ItemLemmas::at_place, crate::proofs::ItemLemmas::rest_after, crate::proofs::ItemLemmas::none_after))]
+    fn take_first(&mut self) -> Result<Option<Listed>, AllocError>
+        ensures first { IfOk result (λ item. option_map listed_tree item
+            ≡ slice_get (drop self.old.place (map tree_of self.old.array.value.items)) 0) }
+        ensures rest { OnOk result (drop self.new.place (map tree_of self.new.array.value.items)
+            ≡ drop 1 (drop self.old.place (map tree_of self.old.array.value.items))) }
     {
-        match self.array.as_array().get(self.place) {
+        let Some(next) = self.place.checked_add(1) else {
+            return Err(AllocError);
+        };
+        match Listed::at(&self.array, self.place)? {
             Some(item) => {
-                let item = item.clone()?;
-                self.place += 1;
+                self.place = next;
                 Ok(Some(item))
             }
             None => Ok(None),
@@ -131,7 +160,7 @@ impl Listed {
     }
 }
 
-impl Numbers {
+impl RangeItems {
     /// Returns the number at a place, counted from 0, if there is one.
     #[tactic(auto, using(crate::proofs::ItemLemmas::number_at, crate::proofs::ItemLemmas::number_past))]
     fn get(&self, place: u64) -> Result<Option<i64>, AllocError>

@@ -2,21 +2,19 @@
 ghost use Rattle.liquid_tags.specs.meaning.Loops.{rounds_of};
 
 use crate::for_block::items::Items;
-use crate::for_block::kept::Kept;
-use liquid_core::Object;
 use liquid_core::parser::{ListOf, Meant, TreeMark};
+use liquid_core::runtime::LoopFrame;
 
 /// The items that a loop has left, the place of the first of them, how many items there were, and how many turns there
-/// are: one for each item, and one after the last. In addition, the object `forloop` and the names of the frame of the
-/// turn that has ended, which the next turn writes over.
+/// are: one for each item, and one after the last. In addition, the frame of the turn that has ended, which the next turn
+/// writes over.
 #[derive(Drop)]
 pub struct Rounds {
     pub(crate) left: Items,
     pub(crate) place: u64,
     pub(crate) size: u64,
     pub(crate) turns: u64,
-    pub(crate) kept: Option<Kept>,
-    pub(crate) names: Option<Object>,
+    pub(crate) frame: Option<Box<LoopFrame>>,
 }
 
 /// Marks the shape of a loop's progress.

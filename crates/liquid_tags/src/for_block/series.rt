@@ -72,25 +72,25 @@ fn items_of_owned(alloc: Global, value: Value) -> Result<Items, Error>
     ensures { Gives items_left result (items_in (tree_of value)) }
 {
     match value {
-        Value::Array(array) => Ok(Items::listed(array)),
+        Value::Array(array) => Ok(Items::listed(alloc, array)?),
         Value::Object(members) => Ok(pairs_of(alloc, members.as_object())?),
-        Value::State(_) | Value::Nil => Ok(no_items(alloc)),
+        Value::State(_) | Value::Nil => Ok(no_items()),
         Value::Scalar(scalar) => Err(expected(alloc, "Array expected", &Value::Scalar(scalar))),
     }
 }
 
 /// Returns no items.
-fn no_items(alloc: Global) -> Items
+fn no_items() -> Items
     ensures { items_left result ≡ [] }
 {
-    Items::listed(SharedArray::Own(Vec::new(alloc)))
+    Items::counted(0, 0)
 }
 
 /// Returns the pairs of an object as items.
 fn pairs_of(alloc: Global, members: &Object) -> Result<Items, AllocError>
     ensures { IfOk result (λ items. items_left items ≡ pairs (members_view members.now.entries)) }
 {
-    Ok(Items::listed(SharedArray::Own(pairs(alloc, members)?)))
+    Items::of_array(alloc, pairs(alloc, members)?)
 }
 
 /// Returns the pairs of an object.

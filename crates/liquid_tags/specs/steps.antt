@@ -1,2 +1,0 @@
-pub mod Forloops
-pub mod Reuse
