@@ -197,7 +197,7 @@ impl LoopFrame {
             }
         }
         let name = String::from_str(alloc, name)?;
-        Box::new(alloc, LoopFrame { name, item, counts })
+        Ok(Box::new(alloc, LoopFrame { name, item, counts })?)
     }
 
     /// Returns the loop's name, which is one of the two names of its frame.

@@ -24,7 +24,7 @@ pub struct ChainedScopes<R: Runtime> {
 }
 
 impl<R: Runtime> ChainedScopes<R> {
-    // Returns the place of the innermost global frame.
+    /// Returns the place of the innermost global frame.
     fn last_global(&self) -> Option<usize>
         ensures { LastGlobal (layers_of self.now.links.items) result }
     {
@@ -208,7 +208,7 @@ impl<V> Link<V> {
     }
 }
 
-// Returns `true` if the name, if it has a value, is the own name of a sandboxed frame.
+/// Returns `true` if the name, if it has a value, is the own name of a sandboxed frame.
 fn seals_over<V: Fresh>(links: &[Link<V>], name: &str, below: bool) -> bool
     ensures { (v : View V.Shape) → below ≡ comes_from_seal v name.now → result ≡ comes_from_seal (view_over v links.now) name.now }
 {

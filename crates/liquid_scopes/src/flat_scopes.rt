@@ -64,7 +64,7 @@ pub(crate) struct Count {
 }
 
 impl Count {
-    // Counts one more frame lookup.
+    /// Counts one more frame lookup.
     pub(crate) fn tick(&mut self)
         requires { self.old.looks + 1 < 2 ^ 64 }
         ensures { self.new.looks ≡ self.old.looks + 1 }

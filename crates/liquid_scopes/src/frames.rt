@@ -19,7 +19,7 @@ pub(crate) struct Frames {
 }
 
 impl Frames {
-    // Returns the places of one frame.
+    /// Returns the places of one frame.
     pub(crate) fn one(alloc: Global, place: usize) -> Frames
         ensures { (j : ℕ) → is_place result.last result.earlier j ≡ nat_eq j place }
     {
@@ -29,14 +29,14 @@ impl Frames {
         }
     }
 
-    // Returns the last place, if there is one.
+    /// Returns the last place, if there is one.
     pub(crate) fn last(&self) -> Option<usize>
         ensures { TopOf (is_place self.now.last self.now.earlier) result }
     {
         self.last
     }
 
-    // Adds a place.
+    /// Adds a place.
     pub(crate) fn add(&mut self, place: usize) -> Result<(), Error>
         ensures added { OnOk result ((j : ℕ) → is_place self.new.last self.new.earlier j
             ≡ (is_place self.old.last self.old.earlier j || nat_eq j place)) }
@@ -55,7 +55,7 @@ impl Frames {
         Ok(())
     }
 
-    // Removes a place.
+    /// Removes a place.
     pub(crate) fn leave(&mut self, place: usize)
         ensures { (j : ℕ) → is_place self.new.last self.new.earlier j
             ≡ (is_place self.old.last self.old.earlier j && not (nat_eq j place)) }

@@ -28,7 +28,7 @@ impl Index {
         }
     }
 
-    // Returns the last frame of the name.
+    /// Returns the last frame of the name.
     pub(crate) fn top(&self, name: &str) -> Option<usize>
         ensures { TopOf (stands self.now.places name.now) result }
     {
@@ -38,7 +38,7 @@ impl Index {
         }
     }
 
-    // Records that the frame gives the name a value.
+    /// Records that the frame gives the name a value.
     #[inline(always)]
     pub(crate) fn note(&mut self, alloc: Global, name: &str, frame: usize) -> Result<(), Error>
         ensures noted { OnOk result (Noted (λ q. bytes_eq name.now q) frame self.old.places self.new.places) }
@@ -54,7 +54,7 @@ impl Index {
         Ok(())
     }
 
-    // Records that the frame no longer gives the name a value.
+    /// Records that the frame no longer gives the name a value.
     #[inline(always)]
     pub(crate) fn forget(&mut self, name: &str, frame: usize)
         ensures { Forgotten (λ q. bytes_eq name.now q) frame self.old.places self.new.places }
@@ -65,7 +65,7 @@ impl Index {
         }
     }
 
-    // Records that the frame gives these names a value. If memory runs out, some of them are recorded.
+    /// Records that the frame gives these names a value. If memory runs out, some of them are recorded.
     #[inline(always)]
     pub(crate) fn note_all(
         &mut self,
@@ -83,7 +83,7 @@ impl Index {
         Ok(())
     }
 
-    // Records that the frame no longer gives any of these names a value.
+    /// Records that the frame no longer gives any of these names a value.
     #[inline(always)]
     pub(crate) fn forget_all(&mut self, names: &Object, frame: usize)
         ensures { Forgotten (λ q. is_some (get (names_of names.now) q)) frame self.old.places self.new.places }

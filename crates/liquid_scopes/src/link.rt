@@ -60,7 +60,7 @@ pub(crate) enum Link<V> {
 }
 
 impl<V> Link<V> {
-    // Returns the names that are seen in the link, from those that are seen below it.
+    /// Returns the names that are seen in the link, from those that are seen below it.
     pub(crate) fn roots_over(
         &self,
         alloc: Global,
@@ -95,7 +95,7 @@ impl<V> Link<V> {
         }
     }
 
-    // Returns the value that the frame itself gives a name. This is one frame lookup.
+    /// Returns the value that the frame itself gives a name. This is one frame lookup.
     pub(crate) fn look(&self, name: &str, count: &mut Count) -> Option<Seen<'_>>
         requires { count.old.looks + 1 < 2 ^ 64 }
         ensures value { option_map seen_tree result ≡ own (layer_of self.now) name.now }
@@ -112,8 +112,8 @@ impl<V> Link<V> {
         }
     }
 
-    // Returns `true` if the frame, if it is sandboxed, seals a name that no frame over it gives. This is one frame
-    // lookup.
+    /// Returns `true` if the frame, if it is sandboxed, seals a name that no frame over it gives. This is one frame
+    /// lookup.
     pub(crate) fn seals_own(&self, name: &str, looks: &mut Count) -> bool
         requires { looks.old.looks + 1 < 2 ^ 64 }
         ensures seals { result ≡ seals_own (layer_of self.now) name.now }
@@ -126,7 +126,7 @@ impl<V> Link<V> {
         }
     }
 
-    // Returns `true` if the frame gives a name a value, or may do so later.
+    /// Returns `true` if the frame gives a name a value, or may do so later.
     pub(crate) fn can_hold_names(&self) -> bool
         ensures { result ≡ false → (q : List ℕ) → own (layer_of self.now) q ≡ None }
     {
@@ -137,7 +137,7 @@ impl<V> Link<V> {
         }
     }
 
-    // Records that the frame at this place gives its names a value. If memory runs out, some of them are recorded.
+    /// Records that the frame at this place gives its names a value. If memory runs out, some of them are recorded.
     #[inline(always)]
     #[tactic(auto, using(crate::proofs::FlatLaws::no_names_stand))]
     pub(crate) fn note(&self, index: &mut Index, alloc: Global, place: usize) -> Result<(), Error>
@@ -156,7 +156,7 @@ impl<V> Link<V> {
         }
     }
 
-    // Records that the frame at this place no longer gives any of its names a value.
+    /// Records that the frame at this place no longer gives any of its names a value.
     #[inline(always)]
     #[tactic(auto, using(crate::proofs::FlatLaws::no_names_stand))]
     pub(crate) fn forget(&self, index: &mut Index, place: usize)
@@ -172,7 +172,7 @@ impl<V> Link<V> {
         }
     }
 
-    // Removes this place from the name's places in the index, unless the frame gives the name a value.
+    /// Removes this place from the name's places in the index, unless the frame gives the name a value.
     pub(crate) fn forget_absent(&self, index: &mut Index, name: &str, place: usize)
         ensures { Forgotten (λ q. bytes_eq name.now q && is_none (own (layer_of self.now) name.now))
             place index.old.places index.new.places }
@@ -235,7 +235,7 @@ impl<V> Link<V> {
     }
 }
 
-// Returns the names of both objects.
+/// Returns the names of both objects.
 fn both_names(
     alloc: Global,
     names: &Object,
@@ -246,7 +246,7 @@ fn both_names(
     add_names(assigned, only_names(alloc, names)?)
 }
 
-// Returns the value that a name has in the first object, otherwise in the second.
+/// Returns the value that a name has in the first object, otherwise in the second.
 fn first_value<'a>(first: &'a Object, second: &'a Object, name: &str) -> Option<&'a Value>
     ensures { option_map (λ r. tree_of r.now) result ≡ option_or (get (names_of first.now) name.now) (get (names_of second.now) name.now) }
 {
@@ -256,7 +256,7 @@ fn first_value<'a>(first: &'a Object, second: &'a Object, name: &str) -> Option<
     }
 }
 
-// Does the same with what is found.
+/// Does the same with what is found.
 fn first_seen<'a>(first: &'a Object, second: &'a Object, name: &str) -> Option<Seen<'a>>
     ensures { option_map seen_tree result ≡ option_or (get (names_of first.now) name.now) (get (names_of second.now) name.now) }
 {
@@ -266,7 +266,7 @@ fn first_seen<'a>(first: &'a Object, second: &'a Object, name: &str) -> Option<S
     }
 }
 
-// Records that the frame of a loop gives its two names a value. If memory runs out, one of them may be recorded.
+/// Records that the frame of a loop gives its two names a value. If memory runs out, one of them may be recorded.
 fn note_loop(index: &mut Index, alloc: Global, frame: &LoopFrame, place: usize) -> Result<(), Error>
     ensures noted { OnOk result (Noted (λ q. is_some (get (loop_names frame.now) q)) place index.old.places index.new.places) }
     ensures partly { PartlyNoted (λ q. is_some (get (loop_names frame.now) q)) place index.old.places index.new.places }
@@ -275,7 +275,7 @@ fn note_loop(index: &mut Index, alloc: Global, frame: &LoopFrame, place: usize) 
     index.note(alloc, frame.own_name(), place)
 }
 
-// Records that the frame of a loop no longer gives its two names a value.
+/// Records that the frame of a loop no longer gives its two names a value.
 fn forget_loop(index: &mut Index, frame: &LoopFrame, place: usize)
     ensures { Forgotten (λ q. is_some (get (loop_names frame.now) q)) place index.old.places index.new.places }
 {
@@ -283,8 +283,8 @@ fn forget_loop(index: &mut Index, frame: &LoopFrame, place: usize)
     index.forget(frame.own_name(), place);
 }
 
-// Records that the frame at this place gives the names of both objects a value. If memory runs out, some of them are
-// recorded.
+/// Records that the frame at this place gives the names of both objects a value. If memory runs out, some of them are
+/// recorded.
 fn note_both(
     index: &mut Index,
     alloc: Global,
@@ -301,7 +301,7 @@ fn note_both(
     index.note_all(alloc, assigned, place)
 }
 
-// Records that the frame at this place no longer gives the names of both objects a value.
+/// Records that the frame at this place no longer gives the names of both objects a value.
 fn forget_both(index: &mut Index, names: &Object, assigned: &Object, place: usize)
     ensures { Forgotten (λ q. is_some (option_or (get (names_of assigned.now) q) (get (names_of names.now) q)))
         place index.old.places index.new.places }
@@ -316,8 +316,8 @@ fn has_names(names: &Object) -> bool
     !names.is_empty()
 }
 
-// Returns the link of a frame that begins over the base. A sandboxed or isolated one takes the base's registers into
-// the link.
+/// Returns the link of a frame that begins over the base. A sandboxed or isolated one takes the base's registers into
+/// the link.
 #[inline(always)]
 #[tactic(auto, using(liquid_runtime::proofs::Objects::changed_objects))]
 pub(crate) fn opening<R: Runtime>(alloc: Global, base: &mut R, frame: Frame) -> Link<R::Register>
@@ -347,7 +347,7 @@ pub(crate) fn opening<R: Runtime>(alloc: Global, base: &mut R, frame: Frame) -> 
     }
 }
 
-// Gives back to the base what a link's frame gives back when it ends, and returns the frame of a loop.
+/// Gives back to the base what a link's frame gives back when it ends, and returns the frame of a loop.
 #[inline(always)]
 pub(crate) fn closing<R: Runtime>(base: &mut R, link: Link<R::Register>) -> Option<Box<LoopFrame>>
     ensures registers { R.view base.new ≡ with_registers (registers_of (R.view base.new)) (R.view base.old) }

@@ -20,7 +20,7 @@ use liquid_value::Value;
 use std::alloc::{AllocError, Global};
 use std::collections::BTreeSet;
 
-// Returns the name of the template.
+/// Returns the name of the template.
 pub(crate) fn name_over<'a, V: Fresh>(
     links: &'a [Link<V>],
     below: Option<&'a str>,
@@ -35,7 +35,7 @@ pub(crate) fn name_over<'a, V: Fresh>(
     name
 }
 
-// Returns the names that have a value.
+/// Returns the names that have a value.
 pub(crate) fn roots_over<V: Fresh>(
     alloc: Global,
     links: &[Link<V>],
@@ -51,7 +51,7 @@ pub(crate) fn roots_over<V: Fresh>(
     Ok(names)
 }
 
-// Removes this place from the name's places in the index, unless the frame there gives the name a value.
+/// Removes this place from the name's places in the index, unless the frame there gives the name a value.
 pub(crate) fn forget_absent<V>(links: &[Link<V>], index: &mut Index, name: &str, place: usize)
     ensures { Forgotten (λ q. bytes_eq name.now q && is_none (own_at place (layers_of links.now) name.now)) place
         index.old.places index.new.places }
@@ -62,7 +62,7 @@ pub(crate) fn forget_absent<V>(links: &[Link<V>], index: &mut Index, name: &str,
     }
 }
 
-// Gives a name a value in the global frame at this place, wherever the name is listed.
+/// Gives a name a value in the global frame at this place, wherever the name is listed.
 pub(crate) fn put<V: Fresh>(
     links: &mut Vec<Link<V>>,
     place: usize,

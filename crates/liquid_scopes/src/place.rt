@@ -30,7 +30,7 @@ pub(crate) fn last_of(places: &Vec<usize>) -> Option<usize>
     }
 }
 
-// Adds the place to these if its frame is one of them.
+/// Adds the place to these if its frame is one of them.
 pub(crate) fn keep_place(places: &mut Vec<usize>, is_one: bool, place: usize)
     requires { is_one ≡ true → vec_len places.old < vec_capacity places.old }
     ensures { places.new.items ≡ places.old.items ++ cond is_one (place ∷ []) [] }
@@ -40,7 +40,7 @@ pub(crate) fn keep_place(places: &mut Vec<usize>, is_one: bool, place: usize)
     }
 }
 
-// Removes the last place if its frame was one of these.
+/// Removes the last place if its frame was one of these.
 pub(crate) fn drop_place(places: &mut Vec<usize>, is_one: bool)
     ensures { (kept : List ℕ) (place : ℕ) → places.old.items ≡ kept ++ cond is_one (place ∷ []) [] → places.new.items ≡ kept }
 {

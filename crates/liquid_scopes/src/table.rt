@@ -57,14 +57,14 @@ impl<V: Fresh> Table<V> {
         }
     }
 
-    // Returns the number of frames.
+    /// Returns the number of frames.
     pub(crate) fn frames(&self) -> usize
         ensures { result ≡ length self.now.links.items }
     {
         self.links.len()
     }
 
-    // Returns the name of the template over that of the base.
+    /// Returns the name of the template over that of the base.
     pub(crate) fn name_over<'a>(&'a self, below: Option<&'a str>) -> Option<&'a str>
         ensures { (v : View V.Shape) → option_map (λ r. r.now) below.entry ≡ v.name
             → option_map (λ r. r.now) result ≡ (view_over v self.now.links.items).name }
@@ -72,7 +72,7 @@ impl<V: Fresh> Table<V> {
         name_over(self.links.as_slice(), below)
     }
 
-    // Returns the names that have a value, over those of the base.
+    /// Returns the names that have a value, over those of the base.
     pub(crate) fn roots_over(
         &self,
         alloc: Global,
@@ -84,8 +84,8 @@ impl<V: Fresh> Table<V> {
         roots_over(alloc, self.links.as_slice(), below)
     }
 
-    // Returns `true` if the name, if it has a value, is the own name of a sandboxed frame, where `below` says so for
-    // the base. It takes at most two frame lookups.
+    /// Returns `true` if the name, if it has a value, is the own name of a sandboxed frame, where `below` says so for
+    /// the base. It takes at most two frame lookups.
     pub(crate) fn seals_over(&self, name: &str, below: bool, count: &mut Count) -> bool
         requires { count.old.looks + 2 < 2 ^ 64 }
         ensures seals { (v : View V.Shape) → below ≡ comes_from_seal v name.now
@@ -102,7 +102,7 @@ impl<V: Fresh> Table<V> {
         }
     }
 
-    // Returns the last place of the name. If a sandboxed frame is over all its places, returns one of these or none.
+    /// Returns the last place of the name. If a sandboxed frame is over all its places, returns one of these or none.
     fn top(&self, name: &str, count: &mut Count) -> Option<usize>
         requires { count.old.looks + 1 < 2 ^ 64 }
         ensures seals { (v : View V.Shape) → comes_from_seal (view_over v self.now.links.items) name.now
@@ -120,8 +120,8 @@ impl<V: Fresh> Table<V> {
         }
     }
 
-    // Returns `true` if the sandboxed frame at this place seals the name, if no frame over it gives it a value. This
-    // takes at most one frame lookup.
+    /// Returns `true` if the sandboxed frame at this place seals the name, if no frame over it gives it a value. This
+    /// takes at most one frame lookup.
     fn seals_at(&self, place: usize, name: &str, count: &mut Count) -> bool
         requires { count.old.looks + 1 < 2 ^ 64 }
         ensures seals { result ≡ seals_at (layers_of self.now.links.items) name.now place }
@@ -133,14 +133,14 @@ impl<V: Fresh> Table<V> {
         }
     }
 
-    // Returns the last listed place of the name.
+    /// Returns the last listed place of the name.
     fn listed(&self, name: &str) -> Option<usize>
         ensures { TopOf (listed_at (layers_of self.now.links.items) self.now.unlisted name.now) result }
     {
         self.index.top(name)
     }
 
-    // Returns the place of the unlisted frame, unless it is under this place or under a sandboxed frame.
+    /// Returns the place of the unlisted frame, unless it is under this place or under a sandboxed frame.
     fn unlisted_over(&self, place: Option<usize>) -> Option<usize>
         ensures { result ≡ seen_over place (last_seal (layers_of self.now.links.items)) self.now.unlisted }
     {
@@ -156,22 +156,22 @@ impl<V: Fresh> Table<V> {
         }
     }
 
-    // Returns the place of the last sandboxed frame.
+    /// Returns the place of the last sandboxed frame.
     fn sealed(&self) -> Option<usize>
         ensures { result ≡ last_seal (layers_of self.now.links.items) }
     {
         last_of(&self.seals)
     }
 
-    // Returns the place of the last global frame.
+    /// Returns the place of the last global frame.
     pub(crate) fn last_global(&self) -> Option<usize>
         ensures { LastGlobal (layers_of self.now.links.items) result }
     {
         last_of(&self.globals)
     }
 
-    // Returns the value that the frame at this place itself gives the name. This is one frame lookup, if there is a
-    // frame.
+    /// Returns the value that the frame at this place itself gives the name. This is one frame lookup, if there is a
+    /// frame.
     fn look_at(&self, place: usize, name: &str, count: &mut Count) -> Option<Seen<'_>>
         requires { count.old.looks + 1 < 2 ^ 64 }
         ensures value { option_map seen_tree result ≡ own_at place (layers_of self.now.links.items) name.now }
@@ -185,7 +185,7 @@ impl<V: Fresh> Table<V> {
         }
     }
 
-    // Adds a frame. It is returned if memory runs out.
+    /// Adds a frame. It is returned if memory runs out.
     #[inline(always)]
     pub(crate) fn add(&mut self, alloc: Global, link: Link<V>) -> Result<(), Link<V>>
         ensures added { OnOk result (self.new.links.items ≡ self.old.links.items ++ link ∷ []) }
@@ -206,7 +206,7 @@ impl<V: Fresh> Table<V> {
         Ok(())
     }
 
-    // Makes the next frame the unlisted one, if it can hold names, and lists the one before it.
+    /// Makes the next frame the unlisted one, if it can hold names, and lists the one before it.
     #[inline(always)]
     fn next_unlisted(&mut self, alloc: Global, next: &Link<V>) -> Result<(), Error>
         ensures links { self.new.links ≡ self.old.links }
@@ -223,7 +223,7 @@ impl<V: Fresh> Table<V> {
         Ok(())
     }
 
-    // Lists the unlisted frame.
+    /// Lists the unlisted frame.
     fn list(&mut self, alloc: Global) -> Result<(), Error>
         ensures links { self.new.links ≡ self.old.links }
         ensures seals { self.new.seals ≡ self.old.seals }
@@ -253,7 +253,7 @@ impl<V: Fresh> Table<V> {
         }
     }
 
-    // Makes room for one more frame, and returns whether there is room.
+    /// Makes room for one more frame, and returns whether there is room.
     #[inline(always)]
     fn make_room(&mut self, next: &Link<V>) -> bool
         ensures links { self.new.links.items ≡ self.old.links.items }
@@ -266,7 +266,7 @@ impl<V: Fresh> Table<V> {
             && (!next.is_global() || self.globals.reserve(1).is_ok())
     }
 
-    // Removes the last frame. The names that it masked are found again.
+    /// Removes the last frame. The names that it masked are found again.
     #[inline(always)]
     pub(crate) fn take(&mut self) -> Option<Link<V>>
         ensures items { self.old.links.items ≡ self.new.links.items ++ option_to_list result }
@@ -288,7 +288,7 @@ impl<V: Fresh> Table<V> {
         }
     }
 
-    // Gives a name a value in the global frame at this place.
+    /// Gives a name a value in the global frame at this place.
     pub(crate) fn assign(
         &mut self,
         alloc: Global,
@@ -320,8 +320,8 @@ impl<V: Fresh> Table<V> {
     }
 }
 
-// Returns the value of a name over this base. One lookup is in the unlisted frame, if it may be the name's last one,
-// and one is at its last listed place or in the base.
+/// Returns the value of a name over this base. One lookup is in the unlisted frame, if it may be the name's last one,
+/// and one is at its last listed place or in the base.
 pub(crate) fn look_up<'a, R: Runtime>(
     table: &'a Table<R::Register>,
     base: &'a R,
@@ -344,8 +344,8 @@ pub(crate) fn look_up<'a, R: Runtime>(
     }
 }
 
-// Returns the value that the name has at this place, or in the base if it has none. Frames below the last sandboxed
-// frame are not seen.
+/// Returns the value that the name has at this place, or in the base if it has none. Frames below the last sandboxed
+/// frame are not seen.
 fn look_listed<'a, R: Runtime>(
     table: &'a Table<R::Register>,
     base: &'a R,
