@@ -4,7 +4,7 @@ ghost use Rattle.std.specs.Cow.{cow_str_bytes};
 ghost use Rattle.liquid_error.specs.meaning.Told.{Gives};
 ghost use Rattle.liquid_value.specs.meaning.View.{view as tree_of};
 ghost use Rattle.liquid_value.specs.meaning.Render.{render};
-ghost use Rattle.liquid_runtime.specs.meaning.LoopNames.{forloop};
+ghost use Rattle.liquid_runtime.specs.meaning.LoopNames.{forloop, seen_tree};
 ghost use Rattle.liquid_plugins.specs.meaning.Chain.{chain_value};
 ghost use Rattle.liquid_plugins.specs.meaning.ExpressionOf.{chain_of};
 ghost use Rattle.liquid_plugins.specs.meaning.NodesOf.{name_chain};
@@ -74,7 +74,19 @@ fn put_value<O: Out>(alloc: Global, value: &Value, out: &mut O, answer: &mut Res
     }
 }
 
-/// Puts out the object `forloop`.
+/// Puts out the value of a name, which is made first if it is an object `forloop`.
+fn put_seen<O: Out>(alloc: Global, seen: Seen<'_>, out: &mut O, answer: &mut Result<(), Error>)
+    requires { IsOk answer.old }
+    ensures out { ValueOut (render (seen_tree seen.entry)) (target (O.place out.old)) (target (O.place out.new)) answer.new }
+    ensures around { around (O.place out.new) ≡ around (O.place out.old) }
+{
+    match seen {
+        Seen::Lent(value) => put_value(alloc, value, out, answer),
+        Seen::Loop(counts) => put_loop(alloc, counts, out, answer),
+    }
+}
+
+/// Puts out an object `forloop`.
 #[inline(never)]
 fn put_loop<O: Out>(alloc: Global, counts: Counts, out: &mut O, answer: &mut Result<(), Error>)
     requires { IsOk answer.old }
@@ -132,8 +144,7 @@ where
     ensures around { around (O.place out.new) ≡ around (O.place out.old) }
 {
     match named_value(name, runtime) {
-        Some(Seen::Lent(value)) => put_value(alloc, value, out, answer),
-        Some(Seen::Loop(counts)) => put_loop(alloc, counts, out, answer),
+        Some(seen) => put_seen(alloc, seen, out, answer),
         None => {
             let made: Result<FilterChain<X>, AllocError> = FilterChain::of_name(alloc, name);
             match made {

@@ -4,6 +4,7 @@ mod depth;
 mod framed;
 mod frames;
 mod lenient;
+mod loops;
 mod names;
 mod paths;
 mod popped;

@@ -10,7 +10,7 @@ use Rattle.liquid_template.proofs.put.put_name.Goals as goal
 pub returns-in-Some-clause-renders : goal.returns-in-Some-clause-renders
 returns-in-Some-clause-renders g c =
     value_written _ _ _ _ _ _ _ (ap (λ r. ok_then r (filtered g.X.Filter.means (erase (g.R.Runtime.view c.args.runtime.now)) []))
-    c.in-Some.ensures.evaluates) refl c.put_value.ensures.out
+    c.in-Some.ensures.evaluates) refl c.put_seen.ensures.out
 
 pub returns-in-Ok-clause-renders : goal.returns-in-Ok-clause-renders
 returns-in-Ok-clause-renders g c =
