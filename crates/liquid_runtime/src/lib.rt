@@ -7,6 +7,7 @@ mod index_frame;
 mod laws;
 mod listed;
 mod loop_frame;
+mod loop_item;
 pub mod names;
 mod registers;
 mod runtime;
@@ -25,7 +26,8 @@ pub use laws::{
     set_index_changes_no_other_name, stack_names_first,
 };
 pub use listed::Listed;
-pub use loop_frame::{Counts, LoopFrame, LoopItem, Seen};
+pub use loop_frame::{Counts, LoopFrame, Seen};
+pub use loop_item::LoopItem;
 pub use registers::{Fresh, Interrupt, InterruptRegister, Registers};
 pub use runtime::{Runtime, find_seen};
 pub use runtime_core::RuntimeCore;

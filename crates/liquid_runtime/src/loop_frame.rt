@@ -8,7 +8,7 @@ ghost use Rattle.liquid_runtime.specs.meaning.Maps.{names_of};
 ghost use Rattle.liquid_runtime.specs.meaning.Roots.{NamesOver};
 ghost use Rattle.liquid_runtime.specs.meaning.LoopNames.{forloop, forloop_members, item_tree, loop_names, names_of_item, place_tree, seen_tree};
 
-use crate::listed::Listed;
+use crate::loop_item::LoopItem;
 use crate::names::{add_names, no_names};
 use liquid_value::{Object, SharedObject, Value, ValueCow};
 use std::alloc::{AllocError, Global};
@@ -19,15 +19,6 @@ use std::collections::BTreeSet;
 pub struct Counts {
     pub place: u64,
     pub size: u64,
-}
-
-/// The item of a turn.
-#[derive(Drop)]
-pub enum LoopItem {
-    /// An item of an array.
-    Listed(Listed),
-    /// A value of its own, as a number of a range.
-    Own(Value),
 }
 
 /// The frame of a loop's turn: the item under the loop's name, and the object `forloop`, whose members are made when
@@ -153,25 +144,6 @@ fn number(count: u64) -> Option<Value>
     match i64::try_from(count) {
         Ok(number) => Some(Value::scalar(number)),
         Err(_) => None,
-    }
-}
-
-impl LoopItem {
-    /// Returns the item.
-    pub fn get(&self) -> &Value
-        ensures { tree_of result.now ≡ item_tree self.now }
-    {
-        match self {
-            LoopItem::Listed(listed) => listed.get(),
-            LoopItem::Own(value) => value,
-        }
-    }
-
-    /// Returns a copy of the item.
-    pub fn to_value(&self) -> Result<Value, AllocError>
-        ensures { IfOk result (λ value. tree_of value ≡ item_tree self.now) }
-    {
-        self.get().clone()
     }
 }
 

@@ -5,8 +5,8 @@ use Rattle.liquid_scalar.specs.meaning.Scalar.{integer, boolean}
 use Rattle.liquid_value.specs.meaning.Tree.{Tree, scalar, object, Members, no_members, member}
 use Rattle.liquid_value.specs.meaning.View.{view}
 use Rattle.liquid_runtime.specs.meaning.Maps.{Names}
-use Rattle.liquid_runtime.specs.declared.loop_frame.LoopItem.{LoopItem}
-use Rattle.liquid_runtime.specs.declared.loop_frame.LoopItem.TheVariants as item
+use Rattle.liquid_runtime.specs.declared.loop_item.LoopItem.{LoopItem}
+use Rattle.liquid_runtime.specs.declared.loop_item.LoopItem.TheVariants as item
 use Rattle.liquid_runtime.specs.declared.listed.Listed.{Listed}
 use Rattle.liquid_value.specs.declared.value.Value.TheVariants as Value
 use Rattle.liquid_runtime.specs.declared.loop_frame.LoopFrame.{LoopFrame}
