@@ -3,7 +3,7 @@ use crate::calls::answers::add_names;
 use crate::calls::given::{Engine, Given, Values, Ways};
 use crate::problem::Problem;
 use liquid_core::model::{Object, Value, ValueSource};
-use liquid_core::runtime::Runtime;
+use liquid_core::runtime::{Runtime, Seen};
 use std::alloc::{AllocError, Global};
 use std::fmt::Display;
 
@@ -88,7 +88,7 @@ fn add_source(all: &mut String, value: &Value) -> Result<(), AllocError> {
 /// Adds what names have a value, and which index variables, to a text.
 fn add_runtime<R: Runtime>(all: &mut String, runtime: &R) -> Result<(), AllocError> {
     for name in ["a", "i", "n", "own"] {
-        if let Some(value) = runtime.try_get_name(name) {
+        if let Some(Seen::Lent(value)) = runtime.try_get_name(name) {
             add_source(all, value)?;
         }
     }
