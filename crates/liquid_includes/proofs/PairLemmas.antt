@@ -158,9 +158,6 @@ first_found ts given text b first same is =
     ap (option_and_then (λ (g : Token × Tokens). first_by g (is_comma g.0))) first
     ∙ ap (first_by given) (ap (λ x. bytes_eq x (codes ",")) (sym same) ∙ is)
 
-pub none_found : (ts : Tokens) → next ts ≡ None → next_first ts ≡ None
-none_found ts none = ap (option_and_then (λ (g : Token × Tokens). first_by g (is_comma g.0))) none
-
 pub finds : (o : Option TagToken) (cursor : TagTokenIter) (ts : Tokens) (meant : Option (Token × Tokens)) → HandsOut o cursor ts meant
     → Finds o cursor meant
 finds None cursor ts meant handed = handed.0

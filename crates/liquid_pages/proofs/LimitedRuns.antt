@@ -119,10 +119,6 @@ module _ {Reg : Type 0} where
       ap (λ ss. steps_within room ss r.refusal r.view) (sym (append-nil r.steps)) ∙ front_stays room r.steps [] r.refusal r.view h i
       ∙ ap (λ ss. record r { steps = ss }) (append-nil r.steps)
 
-  -- what is left of a run after steps for which there is room
-  later_steps : Room → Run Reg → List (Step Reg) → List (Step Reg) → List (Step Reg)
-  later_steps room r front later = (steps_within (room_past room front) later r.refusal r.view).steps
-
   steps_stay : (room : Room) (r : Run Reg) (front later : List (Step Reg)) → r.steps ≡ front ++ later → checkpoints front ≤ room.turns
       → length (pieces front) ≤ room.bytes
       → (run_within room r).steps ≡ front ++ (steps_within (room_past room front) later r.refusal r.view).steps

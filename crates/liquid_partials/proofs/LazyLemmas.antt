@@ -43,9 +43,6 @@ tied Less e = absurd (subst Untrue e tt)
 tied Equal e = refl
 tied Greater e = absurd (subst Untrue e tt)
 
-is_some-some : {X : Type 0} (o : Option X) (x : X) → o ≡ Some x → is_some o ≡ true
-is_some-some o x e = ap is_some e
-
 cond_once : (c : Bool) (n : ℕ) → cond c n (n + 1) ≡ n + once (not c)
 cond_once true n = omega arith
 cond_once false n = refl
@@ -341,10 +338,6 @@ module _ {A F T P B : Type 0} (of : A → Nodes F T B) (l : Lang F T P B) (texts
       kept_keeps =
           inserted ∙ newly_kept (kept_or_read of l old texts) (all_kept of old) name (kept_as of answer)
           (sym (read_found (Some (kept_as of answer)) read))
-
-      pub kept_known : Known new texts
-      kept_known =
-          known-insert old new name (kept_as of answer) known inserted (sym (contains-readings l texts name) ∙ ap is_some (sym read))
 
   -- after any request all names of the source are still kept
   pub has-after : (old new : BTreeMap (String Global) (Result A Error)) (b : Bool) (name : List ℕ) → HasAll old texts

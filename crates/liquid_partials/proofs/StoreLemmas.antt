@@ -114,14 +114,8 @@ module _ {A : Type 0} (finds : NameMap (Result A Refusal)) (name : List ℕ) whe
   fault_there (Some (Ok y)) r h = absurd h
   fault_there (Some (Err q)) r h = ap (λ z. Some (Err z)) (sym h)
 
-  pub found_tree : (x : A) → tried finds name ≡ Ok (Some x) → get finds name ≡ Some (Ok x)
-  found_tree x e = tree_there (get finds name) x (subst (IsTree x) (sym e) refl)
-
   pub found_none : tried finds name ≡ Ok None → get finds name ≡ None
   found_none e = none_there (get finds name) (subst IsNothing (sym e) tt)
-
-  pub found_fault : (r : Refusal) → tried finds name ≡ Err r → get finds name ≡ Some (Err r)
-  found_fault r e = fault_there (get finds name) r (subst (IsFault r) (sym e) refl)
 
   abbrev partial_as : Option (Result A Refusal) → Result A Refusal
   partial_as found = elim found [ None ↦ Err (unknown_partial name (keys finds)) | Some reading ↦ reading ]

@@ -188,17 +188,6 @@ module _ (options : Options) (template : List ℕ) (globals : Names) (partials :
       text_follows (known template) _ (Fails at at status) _ _ (stopped (String Global) fault at status is)
       (λ text memory. finishes_memory options text globals partials at status (is ∙ memory)) step
 
-pub one_rendered : (options : Options) (template : List ℕ) (globals : Names) (partials : Option Texts) (known : Files) (before after : Sunk)
-    (status : ℕ) (text : String Global) (result : Result (Unit {0}) _)
-    → WithText (known template) (Stops (Ok text)) (λ bytes. Brings string_bytes bytes (Ok text))
-    → Renders options (string_bytes text) globals partials before after result → status ≡ status_of result
-    → ExecutesOne options template globals partials known before after status
-one_rendered options template globals partials known before after status text result there renders is =
-    let finished : Finishes options (string_bytes text) globals partials before after status =
-    record { result = result; renders = renders; status_is = is } in
-    text_follows (known template) _ _ _ _ (λ never. absurd never)
-    (λ bytes same. subst (λ b. Finishes options b globals partials before after status) same finished) there
-
 -- several pages
 module _ (pages : AskedPages) (known : Files) (listed : Folders) (left : Files) (status : ℕ) where
   abbrev Stop : Type 0

@@ -206,12 +206,6 @@ pub templates_collect : (templates : List (List ℕ)) (before after : Requests) 
     → CollectsAll (map template_step templates) before after
 templates_collect templates before after is = (is ∙ ap (λ rs. also before rs) (sym (templates_made templates)), templates_clear templates)
 
-pub one_more_template : (before between after : Requests) (template : List ℕ) (templates : List (List ℕ))
-    → between ≡ also before (reading template ∷ []) → after ≡ also between (map reading templates)
-    → after ≡ also before (map reading (template ∷ templates))
-one_more_template before between after template templates same is =
-    is ∙ ap (λ b. also b (map reading templates)) same ∙ also_also before (reading template ∷ []) (map reading templates)
-
 -- from the steps to the whole
 abbrev pub FollowsFault : List Step → Requests → Requests → Fault → Type 0
 FollowsFault steps before after fault = Follows {A = Unit {0}} steps before after (Err fault)

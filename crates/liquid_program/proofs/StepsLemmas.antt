@@ -234,14 +234,6 @@ came_all files folder ending names rest before now so_far none =
     subst (λ ns. CollectsAll (file_steps files folder ending ns) before now)
     (sym (so_far.1 ∙ ap (λ ns. so_far.0 ++ ns) none ∙ append-nil so_far.0)) so_far.2
 
--- a folder that is named, and none
-pub no_folder : (files : FilesAt) (folders : FoldersAt) (ending : Option (List ℕ)) (folder : Option (Bor (List ℕ)))
-    (before after : Requests) → folder ≡ None → after ≡ before
-    → CollectsAll (partials_steps files folders (option_words (option_map (λ f. f.now) folder)) ending) before after
-no_folder files folders ending folder before after is same =
-    subst (λ (f : Option (Bor (List ℕ))). CollectsAll (partials_steps files folders
-    (option_words (option_map (λ (w : Bor (List ℕ)). w.now) f)) ending) before after) (sym is) (same ∙ sym (also_nothing before), refl)
-
 pub folder_named : (files : FilesAt) (folders : FoldersAt) (ending : Option (List ℕ)) (folder : Option (Bor (List ℕ)))
     (named : Bor (List ℕ)) → folder ≡ Some named
     → partials_steps files folders (option_words (option_map (λ f. f.now) folder)) ending ≡ folder_steps files named.now ending

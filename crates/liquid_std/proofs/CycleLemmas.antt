@@ -42,9 +42,6 @@ pub other_token : (ts : Tokens) (name colon : Token × Tokens) (text : List ℕ)
     → name_in ts ≡ None
 other_token ts name colon text one two same is = second_token ts name colon text false one two same is
 
-pub one_token : (ts : Tokens) (name : Token × Tokens) → next ts ≡ Some name → next name.1 ≡ None → name_in ts ≡ None
-one_token ts name one none = ap (option_and_then after_name) one ∙ ap (option_and_then (if_colon name.0)) none
-
 pub no_token : (ts : Tokens) → next ts ≡ None → name_in ts ≡ None
 no_token ts none = ap (option_and_then after_name) none
 

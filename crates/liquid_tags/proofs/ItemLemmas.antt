@@ -92,16 +92,6 @@ counted_first : (from : ℤ) (size following : ℕ) → size ≡ following + 1 �
     ∷ counted (from +ℤ pos 1) following
 counted_first from size following e = ap (counted from) (e ∙ add-one following)
 
-pub number_taken : (from : ℤ) (size following : ℕ) → size ≡ following + 1 → Some (scalar (integer from)) ≡ slice_get (counted from size) 0
-number_taken from size following e = sym (ap (λ xs. slice_get xs 0) (counted_first from size following e))
-
-pub numbers_after : (from next : ℤ) (size following : ℕ) → size ≡ following + 1 → next ≡ from +ℤ pos 1
-    → counted next following ≡ drop 1 (counted from size)
-numbers_after from next size following e n = ap (λ m. counted m following) n ∙ sym (ap (drop 1) (counted_first from size following e))
-
-pub no_number_after : (from next : ℤ) (size : ℕ) → size ≡ 1 → [] ≡ drop 1 (counted from size)
-no_number_after from next size e = sym (ap (λ n. drop 1 (counted from n)) e)
-
 pub no_number : (from : ℤ) (size : ℕ) → size < 1 → counted from size ≡ []
 no_number from size below = let none : size ≡ 0 = omega arith in ap (counted from) none
 

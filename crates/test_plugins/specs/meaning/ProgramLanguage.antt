@@ -32,11 +32,3 @@ program_language = meaning_of (record { filters = the_filters; tags = plain_tags
 -- the nodes of its templates
 abbrev pub ProgramNode : Type 0
 ProgramNode = NodeShape AnyShape TagShape BlockShape
-
--- what a text is read as in it
-abbrev pub ProgramAnswer : Type 0
-ProgramAnswer = Result (List ProgramNode) Refusal
-
--- what its templates are rendered with: an empty register, and no store of partials
-abbrev pub program_setting : Setting (Unit {0}) AnyShape TagShape ℕ BlockShape Stage
-program_setting = setting tt any_filters tag_nodes block_nodes None
