@@ -117,7 +117,7 @@ impl<F: ParseFilter> ParseBlock<F> for Blocks {
         tokens: TagTokenIter<'_>,
         _filters: &PluginRegistry<F>,
     ) -> Result<BlockPlan, Error> {
-        begun(alloc, *self, tokens)
+        begin_block(alloc, *self, tokens)
     }
 
     fn divide(
@@ -153,13 +153,13 @@ impl<F: ParseFilter> ParseBlock<F> for Blocks {
 }
 
 /// Returns the plan of a block's start tag.
-fn begun(alloc: Global, block: Blocks, tokens: TagTokenIter<'_>) -> Result<BlockPlan, Error>
+fn begin_block(alloc: Global, block: Blocks, tokens: TagTokenIter<'_>) -> Result<BlockPlan, Error>
     ensures { (ts : Tokens) → AreTokens tokens.entry ts → Gives plan_of result (begun block ts) }
 {
     match block {
-        Blocks::If => begun_if(alloc, tokens),
-        Blocks::For => begun_for(alloc, tokens),
-        Blocks::Raw => alone(alloc, tokens, planned(BlockNode::Raw(String::new(alloc)))),
+        Blocks::If => begin_if(alloc, tokens),
+        Blocks::For => begin_for(alloc, tokens),
+        Blocks::Raw => alone(alloc, tokens, plan_for(BlockNode::Raw(String::new(alloc)))),
     }
 }
 
@@ -176,7 +176,7 @@ fn add_condition(node: &mut BlockNode, condition: Condition) -> Result<(), Alloc
     }
 }
 
-fn planned(node: BlockNode) -> BlockPlan
+fn plan_for(node: BlockNode) -> BlockPlan
     ensures { plan_of result ≡ planned (block_of node) }
 {
     BlockPlan {
@@ -185,16 +185,16 @@ fn planned(node: BlockNode) -> BlockPlan
     }
 }
 
-fn begun_if(alloc: Global, tokens: TagTokenIter<'_>) -> Result<BlockPlan, Error>
+fn begin_if(alloc: Global, tokens: TagTokenIter<'_>) -> Result<BlockPlan, Error>
     ensures { (ts : Tokens) → AreTokens tokens.entry ts → Gives plan_of result (begun If ts) }
 {
     let first = read_condition(alloc, tokens)?;
     let mut conditions = Vec::new(alloc);
     conditions.push(first)?;
-    Ok(planned(BlockNode::If(conditions)))
+    Ok(plan_for(BlockNode::If(conditions)))
 }
 
-fn begun_for(alloc: Global, tokens: TagTokenIter<'_>) -> Result<BlockPlan, Error>
+fn begin_for(alloc: Global, tokens: TagTokenIter<'_>) -> Result<BlockPlan, Error>
     ensures { (ts : Tokens) → AreTokens tokens.entry ts → Gives plan_of result (begun For ts) }
 {
     let mut tokens = tokens;
@@ -203,7 +203,7 @@ fn begun_for(alloc: Global, tokens: TagTokenIter<'_>) -> Result<BlockPlan, Error
     let series = next_series(alloc, &mut tokens)?;
     let name = String::from_str(alloc, name)?;
     let series = Box::new(alloc, series)?;
-    alone(alloc, tokens, planned(BlockNode::For(name, series)))
+    alone(alloc, tokens, plan_for(BlockNode::For(name, series)))
 }
 
 /// Returns the range or the value that the next token is.

@@ -8,7 +8,7 @@ use crate::for_block::items::Items;
 use crate::for_block::rounds::{Rounds, RoundsShape};
 use crate::for_block::series::{Series, SeriesShape, items_of};
 use crate::for_block::turns::loop_turn;
-use crate::if_block::condition::{Condition, ConditionShape, chosen};
+use crate::if_block::condition::{Condition, ConditionShape, choose_part};
 use liquid_core::parser::{Bytes, ListOf, Meant};
 use liquid_core::runtime::LoopFrame;
 use liquid_core::{Discreet, Error, Frame, Fresh, Renderable, Runtime, Turn};
@@ -83,7 +83,7 @@ impl<V: Fresh> Renderable<V> for BlockNode {
     ) -> Result<BlockProgress, Error> {
         match self {
             BlockNode::If(conditions) => {
-                let part = chosen(alloc, conditions.as_slice(), &*runtime)?;
+                let part = choose_part(alloc, conditions.as_slice(), &*runtime)?;
                 Ok(BlockProgress::Once(part))
             }
             BlockNode::For(_, series) => {

@@ -4,7 +4,7 @@ ghost use Rattle.liquid_tags.specs.laws.TagLaws.{tags_hide};
 
 use crate::assign::assign;
 use crate::increment::increment;
-use crate::partial_call::call::{Call, Inclusion, included};
+use crate::partial_call::call::{Call, Inclusion, include};
 use liquid_core::parser::{Bytes, ChainMark, FilterChain, ListOf, Meant};
 use liquid_core::runtime::{ExpressionMark, Interrupt};
 use liquid_core::{Discreet, Error, Filter, Fresh, Renderable, Runtime, Turn};
@@ -68,7 +68,7 @@ impl<X: Filter, V: Fresh> Renderable<V> for TagNode<X> {
                 runtime.registers_mut().interrupt.set(*interrupt);
                 Ok(Turn::End)
             }
-            TagNode::Includes(inclusion, call) => included(alloc, *inclusion, &**call, &*runtime),
+            TagNode::Includes(inclusion, call) => include(alloc, *inclusion, &**call, &*runtime),
         }
     }
 

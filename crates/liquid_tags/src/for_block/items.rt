@@ -42,17 +42,17 @@ pub struct RangeItems {
 impl Items {
     /// Returns the items of an array, which is moved into memory of its own unless it is shared.
     #[tactic(auto, using(crate::proofs::ItemLemmas::own_trees, crate::proofs::ItemLemmas::shared_trees))]
-    pub(crate) fn listed(alloc: Global, array: SharedArray) -> Result<Items, AllocError>
+    pub(crate) fn from_shared(alloc: Global, array: SharedArray) -> Result<Items, AllocError>
         ensures { IfOk result (λ items. items_left items ≡ trees (array_view array)) }
     {
         match array {
-            SharedArray::Own(array) => Items::of_array(alloc, array),
+            SharedArray::Own(array) => Items::from_array(alloc, array),
             SharedArray::Shared(array) => Ok(Items::Listed(ArrayItems { array, place: 0 })),
         }
     }
 
     /// Returns the items of an array.
-    pub(crate) fn of_array(alloc: Global, array: Array) -> Result<Items, AllocError>
+    pub(crate) fn from_array(alloc: Global, array: Array) -> Result<Items, AllocError>
         ensures { IfOk result (λ items. items_left items ≡ map tree_of array.items) }
     {
         let array = Rc::new(alloc, array)?;
@@ -60,7 +60,7 @@ impl Items {
     }
 
     /// Returns that many numbers, from this one on.
-    pub(crate) fn counted(next: i64, size: u64) -> Items
+    pub(crate) fn from_range(next: i64, size: u64) -> Items
         ensures { items_left result ≡ counted next size }
     {
         Items::Counted(RangeItems { next, size })

@@ -62,7 +62,7 @@ fn items_in(alloc: Global, value: ValueCow<'_>) -> Result<Items, Error>
     ensures { Gives items_left result (items_in (cow_view value.entry)) }
 {
     if let Some(members) = value.as_object() {
-        return Ok(pairs_of(alloc, members)?);
+        return Ok(items_of_pairs(alloc, members)?);
     }
     items_of_owned(alloc, value.into_owned()?)
 }
@@ -72,25 +72,25 @@ fn items_of_owned(alloc: Global, value: Value) -> Result<Items, Error>
     ensures { Gives items_left result (items_in (tree_of value)) }
 {
     match value {
-        Value::Array(array) => Ok(Items::listed(alloc, array)?),
-        Value::Object(members) => Ok(pairs_of(alloc, members.as_object())?),
-        Value::State(_) | Value::Nil => Ok(no_items()),
-        Value::Scalar(scalar) => Err(expected(alloc, "Array expected", &Value::Scalar(scalar))),
+        Value::Array(array) => Ok(Items::from_shared(alloc, array)?),
+        Value::Object(members) => Ok(items_of_pairs(alloc, members.as_object())?),
+        Value::State(_) | Value::Nil => Ok(empty_items()),
+        Value::Scalar(scalar) => Err(type_error(alloc, "Array expected", &Value::Scalar(scalar))),
     }
 }
 
 /// Returns no items.
-fn no_items() -> Items
+fn empty_items() -> Items
     ensures { items_left result ≡ [] }
 {
-    Items::counted(0, 0)
+    Items::from_range(0, 0)
 }
 
 /// Returns the pairs of an object as items.
-fn pairs_of(alloc: Global, members: &Object) -> Result<Items, AllocError>
+fn items_of_pairs(alloc: Global, members: &Object) -> Result<Items, AllocError>
     ensures { IfOk result (λ items. items_left items ≡ pairs (members_view members.now.entries)) }
 {
-    Items::of_array(alloc, pairs(alloc, members)?)
+    Items::from_array(alloc, pairs(alloc, members)?)
 }
 
 /// Returns the pairs of an object.
@@ -125,7 +125,7 @@ fn whole_number<R: Runtime>(
     let value = expression.evaluate(alloc, runtime)?;
     match number_of(value.as_view()) {
         Some(number) => Ok(number),
-        None => Err(expected(alloc, "Whole number expected", value.as_view())),
+        None => Err(type_error(alloc, "Whole number expected", value.as_view())),
     }
 }
 
@@ -146,17 +146,17 @@ fn items_between(alloc: Global, from: i64, to: i64) -> Result<Items, Error>
     if from <= to {
         let steps = to.abs_diff(from);
         if steps < LONGEST {
-            Ok(Items::counted(from, steps + 1))
+            Ok(Items::from_range(from, steps + 1))
         } else {
             Err(range_too_long(alloc, from, to))
         }
     } else {
-        Ok(Items::counted(from, 0))
+        Ok(Items::from_range(from, 0))
     }
 }
 
 /// Returns the error for a value, with its source.
-pub(crate) fn expected(alloc: Global, message: &str, value: &Value) -> Error
+pub(crate) fn type_error(alloc: Global, message: &str, value: &Value) -> Error
     ensures { IfSome (told result) (λ r. r ≡ expected message.now (tree_of value.now)) }
 {
     match ValueSource::new(value).to_string(alloc) {

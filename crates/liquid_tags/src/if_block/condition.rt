@@ -46,7 +46,7 @@ impl Meant for Condition {
 
 /// Returns the place of the first condition that holds, or the place after them all if none does.
 #[inline(never)]
-pub(crate) fn chosen<R: Runtime>(
+pub(crate) fn choose_part<R: Runtime>(
     alloc: Global,
     conditions: &[Condition],
     runtime: &R,

@@ -8,7 +8,7 @@ ghost use Rattle.liquid_plugins.specs.meaning.ExpressionOf.{expression_of};
 ghost use Rattle.liquid_plugins.specs.meaning.TurnOf.{turn_of};
 ghost use Rattle.liquid_tags.specs.meaning.Partials.{bound, included, inclusion_turn, pair_of, partial_name, word_of};
 
-use crate::for_block::series::expected;
+use crate::for_block::series::type_error;
 use crate::names::bind;
 use liquid_core::{Error, Expression, Frame, Object, Runtime, Turn, Value, no_names};
 use std::alloc::{AllocError, Global};
@@ -29,7 +29,7 @@ pub struct Call {
 
 /// Returns the turn with the partial of the call.
 #[inline(never)]
-pub(crate) fn included<R: Runtime>(
+pub(crate) fn include<R: Runtime>(
     alloc: Global,
     inclusion: Inclusion,
     call: &Call,
@@ -52,7 +52,7 @@ pub fn partial_name(alloc: Global, value: &Value) -> Result<String, Error>
 {
     match value {
         Value::Scalar(scalar) => Ok(scalar.to_kstr(alloc)?.into_owned(alloc)?),
-        other => Err(expected(alloc, "Partial name expected", other)),
+        other => Err(type_error(alloc, "Partial name expected", other)),
     }
 }
 

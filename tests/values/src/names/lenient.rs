@@ -5,10 +5,9 @@ use crate::names::framed::{Body, holds_over_both};
 use crate::names::paths::path_of;
 use crate::names::values::answer_text;
 use liquid_json::to_object;
-use liquid_paths::find;
-use liquid_runtime::{Frame, Runtime, Scopes};
+use liquid_runtime::{Frame, Runtime, Scopes, Seen, find_seen};
 use liquid_scalar::ScalarCow;
-use liquid_value::{Object, Value};
+use liquid_value::Object;
 use liquid_views::ValueView;
 use rows::{Line, is_text, rows_hold};
 use serde_json::Value as Json;
@@ -237,9 +236,9 @@ fn is_found_under<S: Scopes>(
 }
 
 /// Returns `true` if there is a value, in which the rest of a path is found.
-fn leads_on(alloc: Global, value: Option<&Value>, rest: &[ScalarCow<'_>]) -> bool {
-    match value {
-        Some(value) => find(alloc, value, rest).is_ok(),
+fn leads_on(alloc: Global, seen: Option<Seen<'_>>, rest: &[ScalarCow<'_>]) -> bool {
+    match seen {
+        Some(seen) => matches!(find_seen(alloc, seen, rest), Ok(Some(_))),
         None => false,
     }
 }

@@ -1,6 +1,6 @@
 use Rattle.std.proofs.Common.{◌≡◌, drop, map}
 use Rattle.liquid_tags.specs.meaning.Conditions.{chosen, condition_of}
-use Rattle.liquid_tags.proofs.if_block.condition.chosen.Given as goal
+use Rattle.liquid_tags.proofs.if_block.condition.choose_part.Given as goal
 
 abbrev pub invariant-loop-condition : goal.invariant-loop-condition
 invariant-loop-condition g l =
