@@ -1,26 +1,6 @@
 -- What `liquid page` reads and writes.
-use Rattle.std.specs.Prelude.{
-  ◌≡◌,
-  ◌≢◌,
-  ◌⊎◌,
-  ℕ,
-  List,
-  [],
-  ◌∷◌,
-  ◌++◌,
-  Bool,
-  true,
-  Option,
-  None,
-  Some,
-  map,
-  flat_map,
-  codes,
-  nat_eq,
-  if◌then◌else◌,
-  ◌&&◌,
-  not,
-}
+use Rattle.std.specs.Prelude.{◌≡◌, ◌≢◌, ◌⊎◌, ℕ, List, [], ◌∷◌, ◌++◌, Bool, true, Option, None, Some, map, flat_map, codes, nat_eq}
+use Rattle.std.specs.Prelude.{if◌then◌else◌, ◌&&◌, not}
 use Rattle.std.specs.Io.KnownBytes.{Appends}
 use Rattle.std.specs.FinMap.{get}
 use Rattle.std.specs.List.{ends_with}

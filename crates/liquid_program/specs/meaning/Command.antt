@@ -1,32 +1,8 @@
 -- The command line of one page. In its short form it is `render [--standard] [--sandboxed] [--lenient] TEMPLATE
 -- GLOBALS.json [DIR]`, with the options in any order. Words that are not of this form may be of the long one, `render` and
 -- then options and paths in any order.
-use Rattle.std.specs.Prelude.{
-  ◌&&◌,
-  ◌==◌,
-  ℕ,
-  ◌+◌,
-  ◌*◌,
-  ◌-◌,
-  List,
-  [],
-  ◌∷◌,
-  length,
-  Bool,
-  true,
-  false,
-  not,
-  is_some,
-  Option,
-  None,
-  Some,
-  option_map,
-  codes,
-  nat_eq,
-  nat_le,
-  nat_lt,
-  if◌then◌else◌,
-}
+use Rattle.std.specs.Prelude.{◌&&◌, ◌==◌, ℕ, ◌+◌, ◌*◌, ◌-◌, List, [], ◌∷◌, length, Bool, true, false, not, is_some, Option, None, Some}
+use Rattle.std.specs.Prelude.{option_map, codes, nat_eq, nat_le, nat_lt, if◌then◌else◌}
 use Rattle.std.specs.Option.{option_map_or}
 use Rattle.std.specs.Str.{bytes_eq}
 use Rattle.std.specs.List.{list_any, starts_with}

@@ -1,29 +1,8 @@
 -- What follows from a command, by the files that it names. They are read in the order in which they are listed here,
 -- and each is turned into what it means before the next is read. If one can't be, the result is `stop`, and otherwise
 -- what `next` says about what was read. If nothing is known of a file or a folder, nothing is said.
-use Rattle.std.specs.Prelude.{
-  ℕ,
-  ◌-◌,
-  List,
-  [],
-  ◌∷◌,
-  ◌++◌,
-  length,
-  take,
-  Bool,
-  Option,
-  None,
-  Some,
-  is_some,
-  Result,
-  Ok,
-  Err,
-  IsUtf8,
-  codes,
-  nat_eq,
-  ⊤,
-  if◌then◌else◌,
-}
+use Rattle.std.specs.Prelude.{ℕ, ◌-◌, List, [], ◌∷◌, ◌++◌, length, take, Bool, Option, None, Some, is_some, Result, Ok, Err, IsUtf8}
+use Rattle.std.specs.Prelude.{codes, nat_eq, ⊤, if◌then◌else◌}
 use Rattle.std.specs.List.{ends_with}
 use Rattle.std.specs.Option.{option_map_or, unwrap_or}
 use Rattle.std.specs.FinMap.{empty, insert, keys}

@@ -1,25 +1,6 @@
 -- What a run of the program over files in memory shows on its output.
-use Rattle.std.specs.Prelude.{
-  ◌≡◌,
-  String,
-  ℕ,
-  Bool,
-  true,
-  false,
-  ◌⊎◌,
-  List,
-  [],
-  ◌++◌,
-  Option,
-  None,
-  Some,
-  MatchOption,
-  Ok,
-  Err,
-  map,
-  string_bytes,
-  option_map,
-}
+use Rattle.std.specs.Prelude.{◌≡◌, String, ℕ, Bool, true, false, ◌⊎◌, List, [], ◌++◌, Option, None, Some, MatchOption, Ok, Err, map}
+use Rattle.std.specs.Prelude.{string_bytes, option_map}
 use Rattle.liquid_runtime.specs.meaning.Maps.{Names}
 use Rattle.liquid_parser.specs.meaning.Reading.{Reads}
 use Rattle.liquid_template.specs.meaning.Run.{Run, written}

@@ -1,43 +1,15 @@
 -- The command line of several pages: `render`, options, and then the templates. Its options are those of a single page,
 -- and `--globals FILE`, `--partials DIR` and `-o DIR`, of which the first and the last have to be there.
-use Rattle.std.specs.Prelude.{
-  ◌&&◌,
-  ◌||◌,
-  ℕ,
-  List,
-  [],
-  ◌∷◌,
-  Bool,
-  true,
-  false,
-  not,
-  is_some,
-  Option,
-  None,
-  Some,
-  codes,
-  if◌then◌else◌,
-  map,
-  option_map,
-  string_bytes,
-}
+use Rattle.std.specs.Prelude.{◌&&◌, ◌||◌, ℕ, List, [], ◌∷◌, Bool, true, false, not, is_some, Option, None, Some, codes, if◌then◌else◌}
+use Rattle.std.specs.Prelude.{map, option_map, string_bytes}
 use Rattle.std.specs.Option.{option_map_or}
 use Rattle.std.specs.Str.{bytes_eq}
 use Rattle.std.specs.Path.{path_file_name}
 use Rattle.liquid_program.specs.declared.command.Awaited.{Awaited}
 use Rattle.liquid_program.specs.declared.command.Options.{Options}
 use Rattle.liquid_program.specs.declared.pages_command.Pages.{Pages}
-use Rattle.liquid_program.specs.meaning.Command.{
-  Choices,
-  awaited_by,
-  is_command,
-  is_place,
-  is_verb,
-  no_options,
-  plainly,
-  with_long_option,
-  with_word,
-}
+use Rattle.liquid_program.specs.meaning.Command.{Choices, awaited_by, is_command, is_place, is_verb, no_options, plainly}
+use Rattle.liquid_program.specs.meaning.Command.{with_long_option, with_word}
 
 -- what several pages need: how they are rendered, the ending of the files that are partials, the folder of the pages, the
 -- file of their globals, the folder of their partials, and their templates

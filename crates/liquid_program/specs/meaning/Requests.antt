@@ -1,25 +1,6 @@
 -- Which files the program reads and which folders it lists, in order, up to the first that is not as it should be.
-use Rattle.std.specs.Prelude.{
-  ◌≡◌,
-  ℕ,
-  ◌⊎◌,
-  List,
-  [],
-  ◌∷◌,
-  ◌++◌,
-  Bool,
-  Option,
-  None,
-  Some,
-  is_some,
-  Result,
-  Ok,
-  Err,
-  map,
-  option_map,
-  string_bytes,
-  if◌then◌else◌,
-}
+use Rattle.std.specs.Prelude.{◌≡◌, ℕ, ◌⊎◌, List, [], ◌∷◌, ◌++◌, Bool, Option, None, Some, is_some, Result, Ok, Err, map, option_map}
+use Rattle.std.specs.Prelude.{string_bytes, if◌then◌else◌}
 use Rattle.std.specs.Option.{option_map_or, unwrap_or}
 use Rattle.std.specs.Str.{is_utf8}
 use Rattle.liquid_error.specs.meaning.Refusal.{Refusal}

@@ -1,17 +1,8 @@
 -- The exit status of the program.
 use Rattle.std.specs.Prelude.{ℕ, Bool, true, false, Result, Ok, Err, nat_lt, if◌then◌else◌}
 use Rattle.liquid_program.specs.declared.fault.Fault.{Fault}
-use Rattle.liquid_program.specs.declared.fault.Fault.TheVariants.{
-  Refused,
-  Explained,
-  Usage,
-  Unreadable,
-  UnreadableInFolder,
-  Unwritable,
-  OwnFile,
-  BadJson,
-  NoGlobals,
-}
+use Rattle.liquid_program.specs.declared.fault.Fault.TheVariants.{Refused, Explained, Usage, Unreadable, UnreadableInFolder, Unwritable}
+use Rattle.liquid_program.specs.declared.fault.Fault.TheVariants.{OwnFile, BadJson, NoGlobals}
 
 abbrev pub fault_status : Fault → ℕ
 fault_status (Refused error) = 1
