@@ -78,7 +78,6 @@ impl Count {
 /// A name is found in at most two frame lookups, however many frames are open. The last frame that can hold names isn't
 /// listed in the index until another such frame is opened over it, and is searched itself. The other lookup is at the
 /// name's last place by the index, or in the base.
-#[derive(Drop)]
 pub struct FlatScopes<R: Runtime> {
     alloc: Global,
     base: R,
