@@ -12,7 +12,7 @@ use std::test::Fail;
 /// Returns `true` if the item at a place has this text, or if there is none and the text is `-`.
 fn is_shown(alloc: Global, items: &Items, place: u64, wanted: &str) -> bool {
     match items.get(place) {
-        Ok(Some(item)) => is_text(ValueRender::new(&item).to_string(alloc), wanted),
+        Ok(Some(item)) => is_text(ValueRender::new(item.get()).to_string(alloc), wanted),
         Ok(None) => wanted == "-",
         Err(_) => false,
     }

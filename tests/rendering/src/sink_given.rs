@@ -4,7 +4,7 @@ use crate::pages::{Page, has_error};
 use liquid_core::Error;
 use liquid_core::model::{Object, Value, ValueRender};
 use liquid_core::parser::{Language, ParseBlock, ParseFilter, ParseTag, parse};
-use liquid_core::runtime::{BuiltRuntime, Runtime, RuntimeBuilder, Template};
+use liquid_core::runtime::{BuiltRuntime, Runtime, RuntimeBuilder, Seen, Template};
 use rows::{Line, is_text};
 use serde_json::Value as Json;
 use std::alloc::Global;
@@ -158,7 +158,7 @@ fn wanted(row: &Line, bytes: u64) -> Option<&str> {
 /// Returns `true` if `g` is what the row leaves after that many bytes.
 fn is_left<R: Runtime>(alloc: Global, row: &Line, bytes: usize, runtime: &R) -> bool {
     match (wanted(row, bytes as u64), runtime.try_get_name("g")) {
-        (Some(wanted), Some(value)) => is_text(ValueRender::new(value).to_string(alloc), wanted),
+        (Some(wanted), Some(Seen::Lent(value))) => is_text(ValueRender::new(value).to_string(alloc), wanted),
         (wanted, None) => wanted == Some("-"),
         _ => false,
     }

@@ -8,7 +8,7 @@ use crate::rows::stores::{OfSource, store};
 use liquid_core::model::{Object, Value, ValueRender};
 use liquid_core::parser::{Language, ParseBlock, ParseFilter, ParseTag};
 use liquid_core::partials::PartialCompiler;
-use liquid_core::runtime::{ChainedScopes, FlatScopes, Runtime, Template};
+use liquid_core::runtime::{self, ChainedScopes, FlatScopes, Runtime, Template};
 use liquid_core::{Discreet, Error, Filter, PartialStore, TextSink};
 use std::alloc::Global;
 use std::rc::Rc;
@@ -28,8 +28,8 @@ fn are_alike(alloc: Global, value: &Value, other: &Value) -> Result<bool, Proble
 fn are_seen<R: Runtime>(alloc: Global, runtime: &R, names: &Object) -> Result<bool, Problem> {
     for (name, value) in names {
         let is_seen = match runtime.try_get_name(name.as_str()) {
-            Some(found) => are_alike(alloc, value, found)?,
-            None => false,
+            Some(runtime::Seen::Lent(found)) => are_alike(alloc, value, found)?,
+            _ => false,
         };
         if !is_seen {
             return Ok(false);
