@@ -56,6 +56,11 @@ def turns(body: str, count: int) -> str:
     return f"{{% for i in (1..{count}) %}}{body}{{% endfor %}}\n"
 
 
+def posts(count: int) -> list[dict[str, object]]:
+    """Returns posts with a title, a number of words and three tags."""
+    return [{"title": f"Post & {at}", "words": at * 37 % 1000, "tags": ["one", "two", f"t{at}"]} for at in range(count)]
+
+
 def nested_loops(count: int) -> str:
     return turns("{% for j in (1..100) %}{{ i }} {{ j }}{% endfor %}", count // 100)
 
