@@ -1,7 +1,7 @@
 //! The parents of rows in isolation, and what is left of one.
 use liquid_core::Error;
 use liquid_core::model::{Object, Value, to_object};
-use liquid_core::runtime::{BuiltRuntime, Interrupt, Runtime, RuntimeBuilder};
+use liquid_core::runtime::{BuiltRuntime, Interrupt, Runtime, RuntimeBuilder, Seen};
 use rows::{Line, Row};
 use std::alloc::Global;
 use liquid_cycle::Marks;
@@ -103,7 +103,10 @@ fn is_same(left: Option<&Value>, right: Option<&Value>) -> bool {
 /// Returns `true` if a runtime has these globals, and no other name but index variables.
 fn are_names_kept<R: Runtime>(globals: &Object, after: &R) -> bool {
     for name in NAMES {
-        let found = after.try_get_name(name);
+        let found = match after.try_get_name(name) {
+            Some(Seen::Lent(value)) => Some(value),
+            _ => None,
+        };
         if !is_same(globals.get(name), found) && !is_same(after.get_index(name), found) {
             return false;
         }
