@@ -1,5 +1,7 @@
 //! What the tables share: a row's filter is called with the row's values, and its answer is compared.
 use liquid_error::Error;
+use liquid_filters::json_text::json;
+use liquid_filters::{CallArguments, FilterKind};
 use liquid_jekyll::filters;
 use liquid_json::to_value;
 use liquid_value::render::{ValueRender, ValueSource};
@@ -7,8 +9,6 @@ use liquid_value::{Value, ValueCow};
 use rows::{Line, is_text};
 use serde_json::Value as Json;
 use std::alloc::Global;
-use liquid_filters::json_text::json;
-use liquid_filters::{CallArguments, FilterKind};
 
 /// Returns `true` if the filter of a row returns what the row says: the filter's name, its input, its arguments, and the
 /// source of what it returns, or the text of its error.

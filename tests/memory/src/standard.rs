@@ -4,10 +4,10 @@ use crate::problem::{Problem, both};
 use liquid_core::model::{Object, to_object};
 use liquid_core::partials::InMemorySource;
 use liquid_core::{Error, TextSink};
+use liquid_filters::filters;
 use liquid_std::render_page;
 use serde_json::Value as Json;
 use std::alloc::Global;
-use liquid_filters::filters;
 
 /// Pages, each with its name, its text and what it writes, up to a bar at a line's end.
 static PAGES: &str =

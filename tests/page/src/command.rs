@@ -1,7 +1,10 @@
 //! `liquid page` and `liquid check` over files in memory: what they print, and which files they write.
 use crate::sites::{add_files, add_trees, has_files};
+use filter_dates::moment_of;
+use liquid_cycle::Marks;
 use liquid_error::Error;
 use liquid_files::InMemoryFolder;
+use liquid_filters::{FilterPlugin, StdKind, filters};
 use liquid_page::{Explain, NoRequest, Request, Task, check_pages, read_words, run_page};
 use liquid_pages::PageLimit;
 use liquid_parser::Language;
@@ -14,9 +17,6 @@ use serde_json::Value as Json;
 use std::alloc::{AllocError, Global};
 use std::rc::Rc;
 use std::test::Fail;
-use filter_dates::moment_of;
-use liquid_filters::{FilterPlugin, StdKind, filters};
-use liquid_cycle::Marks;
 
 type Standard = Language<FilterPlugin<StdKind>, StdTags, StdBlocks>;
 

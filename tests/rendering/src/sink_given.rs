@@ -158,7 +158,10 @@ fn wanted(row: &Line, bytes: u64) -> Option<&str> {
 /// Returns `true` if `g` is what the row leaves after that many bytes.
 fn is_left<R: Runtime>(alloc: Global, row: &Line, bytes: usize, runtime: &R) -> bool {
     match (wanted(row, bytes as u64), runtime.try_get_name("g")) {
-        (Some(wanted), Some(Seen::Lent(value))) => is_text(ValueRender::new(value).to_string(alloc), wanted),
+        (Some(wanted), Some(Seen::Lent(value))) => is_text(
+            ValueRender::new(value).to_string(alloc),
+            wanted,
+        ),
         (wanted, None) => wanted == Some("-"),
         _ => false,
     }

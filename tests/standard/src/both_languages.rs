@@ -6,12 +6,12 @@ use liquid_core::parser::{Language, ParseBlock, ParseFilter, ParseTag};
 use liquid_core::partials::{InMemorySource, LazyStore};
 use liquid_core::runtime::{Renderable, Runtime};
 use liquid_core::{PartialStore, TextSink, render_source};
+use liquid_cycle::Marks;
+use liquid_filters::filters;
 use rows::{Row, holds};
 use std::alloc::Global;
 use std::rc::Rc;
 use std::test::Fail;
-use liquid_filters::filters;
-use liquid_cycle::Marks;
 
 /// Returns `true` if a row comes to what it says in a language over a runtime.
 fn is_rendered<F, T, B, R>(

@@ -1,14 +1,14 @@
 //! Pages of the standard language with a tag of a host's own.
 use crate::sources::is_whole;
 use crate::tag_rows::globals_of;
+use liquid_beside::language_beside;
 use liquid_core::parser::{NoPlugin, PluginRegistry};
 use liquid_core::partials::InMemorySource;
 use liquid_core::{Error, TextSink, render_page_in};
+use liquid_cycle::Marks;
 use rows::{Line, holds, rows_hold};
 use std::alloc::Global;
 use std::test::Fail;
-use liquid_beside::language_beside;
-use liquid_cycle::Marks;
 use test_calls::Link;
 use text_tags::TextTagPlugin;
 

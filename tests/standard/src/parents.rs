@@ -2,9 +2,9 @@
 use liquid_core::Error;
 use liquid_core::model::{Object, Value, to_object};
 use liquid_core::runtime::{BuiltRuntime, Interrupt, Runtime, RuntimeBuilder, Seen};
+use liquid_cycle::Marks;
 use rows::{Line, Row};
 use std::alloc::Global;
-use liquid_cycle::Marks;
 
 /// A parent over a store of partials.
 pub(crate) type Over<P> = BuiltRuntime<Marks, P>;

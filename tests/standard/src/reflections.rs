@@ -3,11 +3,11 @@ use liquid_core::NoPlugin;
 use liquid_core::parser::{
     BlockReflection, FilterReflection, ParameterReflection, PluginRegistry, TagReflection,
 };
+use liquid_filters::filters;
 use liquid_std::language;
 use rows::{Line, holds};
 use std::alloc::{AllocError, Global};
 use std::test::Fail;
-use liquid_filters::filters;
 
 /// The name of each filter, what it returns, its parameters by place and those by keyword, as FILTERS has them.
 const FILTERS: &str = r#"["abs", "The number without its sign.", "", ""]

@@ -6,12 +6,12 @@ use liquid_core::parser::{Language, ParseBlock, ParseFilter, ParseTag, parse};
 use liquid_core::partials::{InMemorySource, LazyStore};
 use liquid_core::runtime::{Runtime, Template};
 use liquid_core::{Discreet, Error, Filter, PartialStore, TextSink};
+use liquid_cycle::Marks;
+use liquid_filters::filters;
 use rows::{Line, Row, holds};
 use std::alloc::Global;
 use std::rc::Rc;
 use std::test::Fail;
-use liquid_filters::filters;
-use liquid_cycle::Marks;
 
 /// Renders a row over a parent, in isolation or in a sandbox.
 fn render<X, T, B, R>(

@@ -4,6 +4,7 @@ use crate::tag_rows::globals_of;
 use liquid_core::parser::{Language, PluginRegistry};
 use liquid_core::partials::InMemorySource;
 use liquid_core::{Error, NoPlugin, Object, TextSink};
+use liquid_cycle::Marks;
 use liquid_pages::{
     PageFrame, PageLimit, PageOptions, read_template, render_template, render_text,
 };
@@ -12,7 +13,6 @@ use rows::{Line, rows_hold};
 use std::alloc::Global;
 use std::rc::Rc;
 use std::test::Fail;
-use liquid_cycle::Marks;
 
 /// A text, how many bytes it may write, what it writes over `{"x": 7}` and the partial `p`, and then its error, and
 /// whether the limit stopped it.

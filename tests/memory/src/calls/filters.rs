@@ -3,9 +3,9 @@ use crate::growths::{MOST, Run, Seen, Verdict, taken};
 use crate::problem::{Problem, both};
 use liquid_core::Error;
 use liquid_core::model::{Value, ValueCow, ValueRender, to_value};
+use liquid_filters::{CallArguments, FilterKind, StdKind, filters};
 use serde_json::Value as Json;
 use std::alloc::{AllocError, Global};
-use liquid_filters::{CallArguments, FilterKind, StdKind, filters};
 
 /// The standard filters, each with its input and its arguments as JSON, and the text of what it returns, up to a bar at
 /// a line's end.

@@ -1,11 +1,11 @@
 //! Rows of the filter `date`: what texts are read as.
 use super::answers::Call;
 use liquid_error::Error;
+use liquid_filters::{CallArguments, FilterKind, StdKind, filters};
 use liquid_value::{Value, ValueCow};
 use rows::{Line, rows_hold};
 use std::alloc::Global;
 use std::test::Fail;
-use liquid_filters::{CallArguments, FilterKind, StdKind, filters};
 
 /// The filter, its input, its arguments, and the source of what it returns.
 const ROWS: &str =

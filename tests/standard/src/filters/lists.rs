@@ -1,14 +1,14 @@
 //! Rows of the filters on lists.
 use super::answers::Call;
+use filter_lists::choices::{compact, keep_where, map, uniq};
+use filter_lists::lists::{concat, first, join, last, reverse};
+use filter_lists::searches::{find, find_index, has, reject};
+use filter_lists::sums::sum;
 use liquid_error::Error;
 use liquid_value::{Value, ValueCow};
 use rows::{Line, rows_hold};
 use std::alloc::Global;
 use std::test::Fail;
-use filter_lists::choices::{compact, keep_where, map, uniq};
-use filter_lists::lists::{concat, first, join, last, reverse};
-use filter_lists::searches::{find, find_index, has, reject};
-use filter_lists::sums::sum;
 
 /// A filter, its input, its arguments, and the source of what it returns.
 const ROWS: &str = r#"["first", [[1], 2], [], "[1, ]"]

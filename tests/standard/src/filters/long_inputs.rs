@@ -1,13 +1,13 @@
 //! Long inputs have their answers, and memory doesn't run out.
+use filter_lists::sums::sum;
+use filter_sorting::order::sort;
+use filter_strings::truncatewords;
+use liquid_conditions::contains;
 use liquid_error::Error;
 use liquid_value::{Array, SharedArray, Value, ValueCow};
 use rows::holds;
 use std::alloc::{AllocError, Global};
 use std::test::Fail;
-use liquid_conditions::contains;
-use filter_lists::sums::sum;
-use filter_sorting::order::sort;
-use filter_strings::truncatewords;
 
 /// How many items a long list has.
 const ITEMS: i64 = 100_002;

@@ -1,14 +1,14 @@
 //! Rows of the filters on numbers.
 use super::answers::Call;
+use filter_numbers::arithmetic::{at_least, at_most, divided_by, minus, modulo, plus, times};
+use filter_numbers::single::{abs, ceil, floor, round};
+use filter_numbers::units::{from_minor, to_minor, written_decimal};
 use liquid_decimals::Decimal;
 use liquid_error::Error;
 use liquid_value::{Value, ValueCow};
 use rows::{Line, is_text, rows_hold};
 use std::alloc::Global;
 use std::test::Fail;
-use filter_numbers::arithmetic::{at_least, at_most, divided_by, minus, modulo, plus, times};
-use filter_numbers::single::{abs, ceil, floor, round};
-use filter_numbers::units::{from_minor, to_minor, written_decimal};
 
 /// A filter, its input, its arguments, and the source of what it returns.
 const ROWS: &str = r#"["plus", "41", ["1"], "42"]

@@ -1,12 +1,12 @@
 //! Rows of the filters that put a list in order.
 use super::answers::Call;
+use filter_sorting::numbers::sort_numeric;
+use filter_sorting::order::{sort, sort_natural};
 use liquid_error::Error;
 use liquid_value::{Value, ValueCow};
 use rows::{Line, rows_hold};
 use std::alloc::Global;
 use std::test::Fail;
-use filter_sorting::numbers::sort_numeric;
-use filter_sorting::order::{sort, sort_natural};
 
 /// A filter, its input, its arguments, and the source of what it returns.
 const ROWS: &str = r#"["sort", [3, null, 1], [], "[1, 3, , ]"]

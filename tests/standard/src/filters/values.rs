@@ -1,11 +1,11 @@
 //! Items, numbers and parts of values.
+use filter_values::items::items;
+use filter_values::numbers::{number, whole};
+use filter_values::parts::{is_truthy, property, size_of};
 use liquid_value::Value;
 use rows::holds;
 use std::alloc::{AllocError, Global};
 use std::test::Fail;
-use filter_values::items::items;
-use filter_values::numbers::{number, whole};
-use filter_values::parts::{is_truthy, property, size_of};
 
 /// Returns an array of an array and a number.
 fn nested(alloc: Global) -> Result<Value, AllocError> {
