@@ -47,7 +47,7 @@ fn is_shown<V: ValueView>(alloc: Global, view: &V, render: &str, source: &str, n
         && is_meant(
             alloc,
             view.to_value(alloc),
-            view.to_cow(alloc),
+            ValueView::to_cow(view, alloc),
             render,
             name,
         )

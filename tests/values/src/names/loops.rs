@@ -1,10 +1,12 @@
 //! The frame of a loop's turn, over both forms of scopes: the item, and what `forloop` says.
 use crate::names::framed::{Body, framed, holds_over_both, shown, shows};
-use liquid_runtime::{Counts, Frame, LoopFrame, LoopItem, Scopes};
+use liquid_runtime::{Counts, Frame, Listed, LoopFrame, LoopItem, Scopes, Seen};
 use liquid_scalar::ScalarCow;
 use liquid_value::Value;
 use rows::{holds, is_text};
-use std::alloc::Global;
+use std::alloc::{AllocError, Global};
+use std::collections::BTreeSet;
+use std::rc::Rc;
 use std::test::Fail;
 
 /// What `forloop` says about the second of three items, and the text of a member that it does not have.
@@ -95,6 +97,60 @@ impl Body for Hidden {
     fn holds<S: Scopes>(&self, alloc: Global, scopes: &mut S) -> bool {
         shows(alloc, scopes, "forloop", "5") && says(alloc, scopes, "index", "none")
     }
+}
+
+/// Returns `true` if an item of an array is lent and copied, and there is none after the last.
+fn lends_items(alloc: Global) -> Result<bool, AllocError> {
+    let mut items = Vec::new(alloc);
+    items.push(Value::scalar(5i64))?;
+    items.push(Value::scalar(6i64))?;
+    let array = Rc::new(alloc, items)?;
+    let Some(listed) = Listed::at(&array, 1)? else {
+        return Ok(false);
+    };
+    let item = LoopItem::Listed(listed);
+    let copy = LoopItem::to_value(&item)?;
+    Ok(Listed::at(&array, 2)?.is_none() && copy == Value::scalar(6i64) && *item.get() == copy)
+}
+
+/// Returns `true` if `forloop` is the same object however it is made.
+fn makes_forloop(alloc: Global) -> Result<bool, AllocError> {
+    let counts = Counts { place: 1, size: 3 };
+    let object = Counts::to_object(&counts, alloc)?;
+    let value = Counts::to_value(&counts, alloc)?;
+    let seen = Seen::Loop(counts);
+    let cow = Seen::to_cow(&seen, alloc)?;
+    let is_there = match object.get("index") {
+        Some(index) => *index == Value::scalar(2i64),
+        None => false,
+    };
+    Ok(is_there && object.len() == 7 && *cow.as_view() == value)
+}
+
+/// Returns `true` if the names of a loop's frame are its own and `forloop`.
+fn names_both(alloc: Global) -> Result<bool, AllocError> {
+    let item = LoopItem::Own(Value::scalar(5i64));
+    let counts = Counts { place: 0, size: 1 };
+    let frame = LoopFrame::of_turn(alloc, None, "i", item, counts)?;
+    let names = LoopFrame::add_names(&*frame, alloc, BTreeSet::new(alloc))?;
+    Ok(names.len() == 2 && names.contains("i") && names.contains("forloop"))
+}
+
+#[test]
+fn loops_lend_their_items(rt: HostRuntime) -> Result<(), Fail> {
+    holds(
+        lends_items(rt.alloc()).unwrap_or(false),
+        "an item of an array is lent",
+    )
+}
+
+#[test]
+fn loops_make_what_is_asked_for(rt: HostRuntime) -> Result<(), Fail> {
+    let alloc = rt.alloc();
+    holds(
+        makes_forloop(alloc).unwrap_or(false) && names_both(alloc).unwrap_or(false),
+        "a loop makes forloop and its names",
+    )
 }
 
 #[test]
