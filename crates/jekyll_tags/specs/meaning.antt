@@ -1,3 +1,10 @@
 pub mod Named
 pub mod Inclusions
 pub mod Given
+pub mod Seen
+pub mod Highlights
+pub mod HighlightsGiven
+pub mod Blocks
+pub mod Files
+pub mod Links
+pub mod LinksGiven

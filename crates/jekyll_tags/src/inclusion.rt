@@ -105,7 +105,7 @@ fn inclusion_turn<X: Filter, R: Runtime>(
 }
 
 /// Returns the texts of chains, joined. They are evaluated from left to right.
-fn joined_texts<X: Filter, R: Runtime>(
+pub(crate) fn joined_texts<X: Filter, R: Runtime>(
     alloc: Global,
     chains: &[FilterChain<X>],
     runtime: &R,

@@ -37,7 +37,7 @@ pub fn read_name<F: ParseFilter>(
 }
 
 /// Reads a chain, or chains between `<` and `>`.
-fn read_parts<F: ParseFilter>(
+pub(crate) fn read_parts<F: ParseFilter>(
     alloc: Global,
     tokens: &mut TagTokenIter<'_>,
     filters: &PluginRegistry<F>,

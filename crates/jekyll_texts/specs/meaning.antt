@@ -6,3 +6,6 @@ pub mod Escape
 pub mod Index
 pub mod Spaces
 pub mod Numerals
+pub mod Latin
+pub mod Quotes
+pub mod Typography

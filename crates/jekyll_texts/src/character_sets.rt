@@ -40,7 +40,8 @@ impl CharacterSet {
     }
 }
 
-fn is_space(character: char) -> bool
+/// Returns `true` for white space of ASCII.
+pub(crate) fn is_space(character: char) -> bool
     ensures { result ≡ Spec.is_space character }
 {
     character == ' ' || ('\t' <= character && character <= '\r')
@@ -53,6 +54,14 @@ fn is_letter_or_digit(character: char) -> bool
     GeneralCategoryGroup::Letter.contains(category)
         || GeneralCategoryGroup::Mark.contains(category)
         || category == GeneralCategory::DecimalNumber
+}
+
+/// Returns `true` for a character that words are made of: a letter, a mark, a decimal digit, or a connector such as `_`.
+pub(crate) fn is_word(character: char) -> bool
+    ensures { result ≡ Spec.is_word character }
+{
+    is_letter_or_digit(character)
+        || GeneralCategory::for_char(character) == GeneralCategory::ConnectorPunctuation
 }
 
 fn is_pretty_mark(character: char) -> bool

@@ -1,5 +1,6 @@
 //! The runs of characters of a set, each as long as it can be.
 ghost use Rattle.std.specs.Prelude.{◌≡◌, ◌<◌, ◌≤◌, length, chars, encode_utf8_all, string_bytes, IfOk};
+ghost use Rattle.std.specs.Str.{byte};
 ghost use Rattle.jekyll_texts.specs.meaning.CharacterSets.{contains};
 ghost use Rattle.jekyll_texts.specs.meaning.Runs as Spec;
 
@@ -69,7 +70,15 @@ fn without_first(text: &str, by: u8) -> &str
     }
 }
 
-fn without_last(text: &str, by: u8) -> &str
+/// Returns the text without one slash at its end.
+pub fn without_slash(text: &str) -> &str
+    ensures { result.now ≡ Spec.without_last (byte "/") text.now }
+{
+    without_last(text, b'/')
+}
+
+/// Returns the text without one such ASCII character at its end.
+pub(crate) fn without_last(text: &str, by: u8) -> &str
     requires { by < 128 }
     ensures { result.now ≡ Spec.without_last by text.now }
 {

@@ -1,32 +1,8 @@
 -- The sets of what is escaped in the parts of a URL.
-use Rattle.std.proofs.Common.{
-  ◌≡◌,
-  ℕ,
-  ◌≤◌,
-  ◌<◌,
-  Bool,
-  true,
-  false,
-  cond,
-  ◌||◌,
-  ◌&&◌,
-  not,
-  ⊎_elim,
-  List,
-  [],
-  ◌∷◌,
-  ◌++◌,
-  refl,
-  sym,
-  ap,
-  ◌∙◌,
-  arith,
-  nat_lt,
-  eqb,
-}
+use Rattle.std.proofs.Common.{◌≡◌, ℕ, ◌≤◌, Bool, true, false, cond, not, ⊎_elim, List, [], ◌∷◌, ◌++◌, refl, sym, ap, ◌∙◌, arith, nat_lt, eqb}
 use Rattle.std.specs.Char.{is_ascii_alphanumeric}
 use Rattle.std.specs.Prelude.{codes}
-use Rattle.std.specs.List.{flat_map, list_any, list_all}
+use Rattle.std.specs.List.{list_all}
 use Rattle.std.proofs.lemmas.Bool.{agree_below, agree_below_at, and_parts, cases_lt}
 use Rattle.std.proofs.lemmas.Bool.Decides.{nat_tests}
 use Rattle.percent_encoding.specs.declared.ascii_set.AsciiSet.{AsciiSet}

@@ -60,8 +60,8 @@ pub fn strip_index(alloc: Global, input: &Value) -> Result<Value, Error>
     Ok(Value::Scalar(ScalarOf::Str(stripped)))
 }
 
-/// Returns the slug of the text by the mode that the argument names: `default`, `raw`, `pretty` or `ascii`. Any other
-/// name gives the text in lower case. Nil is kept.
+/// Returns the slug of the text by the mode that the argument names: `default`, `raw`, `pretty`, `ascii` or `latin`. Any
+/// other name gives the text in lower case. Nil is kept.
 pub fn slugify(alloc: Global, input: &Value, arguments: &[ValueCow<'_>]) -> Result<Value, Error>
     ensures { Gives tree_of result (Spec.slugified (tree_of input.now) (map cow_view arguments.now)) }
 {
@@ -120,6 +120,8 @@ fn slug_mode(name: &str) -> Option<SlugMode>
         Some(SlugMode::Pretty)
     } else if name == "ascii" {
         Some(SlugMode::Ascii)
+    } else if name == "latin" {
+        Some(SlugMode::Latin)
     } else {
         None
     }

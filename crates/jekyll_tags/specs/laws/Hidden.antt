@@ -33,7 +33,7 @@ module _ {F Reg : Type 0} (m : FilterMeaning F) where
   chain_hidden : (g : Names) (v : View Reg) (c : ChainShape F) → chain_value m c (hiding g v) ≡ chain_value m c (hiding empty v)
   chain_hidden g v c = ap (λ r. ok_then r (filtered m (erase (hiding empty v)) c.filters)) (evaluate_hidden g v c.entry)
 
-  texts_hidden : (g : Names) (v : View Reg) (cs : List (ChainShape F)) → joined_texts m (hiding g v) cs ≡ joined_texts m (hiding empty v) cs
+  pub texts_hidden : (g : Names) (v : View Reg) (cs : List (ChainShape F)) → joined_texts m (hiding g v) cs ≡ joined_texts m (hiding empty v) cs
   texts_hidden g v [] = refl
   texts_hidden g v (c ∷ cs) =
       ap (λ r. ok_then (ok_then r (λ t. Ok (render t))) (λ text. ok_then (joined_texts m (hiding g v) cs) (λ rest. Ok (text ++ rest))))

@@ -4,7 +4,7 @@ use Rattle.std.specs.Char.{is_ascii_alphanumeric}
 use Rattle.std.specs.List.{list_any}
 use Rattle.ucd_category.specs.GeneralCategory.{general_category, general_category_eq}
 use Rattle.ucd_category.specs.GeneralCategoryGroup.{in_group}
-use Rattle.ucd_category.specs.declared.GeneralCategory.TheVariants.{DecimalNumber}
+use Rattle.ucd_category.specs.declared.GeneralCategory.TheVariants.{ConnectorPunctuation, DecimalNumber}
 use Rattle.ucd_category.specs.declared.GeneralCategoryGroup.TheVariants.{Letter, Mark}
 use Rattle.ucd_script.specs.Script.{script, script_eq}
 use Rattle.ucd_script.specs.declared.Script.TheVariants.{Han, Hangul, Hiragana, Katakana}
@@ -27,6 +27,10 @@ abbrev pub is_letter_or_digit : ℕ → Bool
 is_letter_or_digit c =
     in_group Letter (general_category c) || (in_group Mark (general_category c)
     || general_category_eq (general_category c) DecimalNumber)
+
+-- what words are made of: these, and connectors such as `_`
+abbrev pub is_word : ℕ → Bool
+is_word c = is_letter_or_digit c || general_category_eq (general_category c) ConnectorPunctuation
 
 -- the marks that a pretty slug keeps
 abbrev pub is_pretty_mark : ℕ → Bool

@@ -9,7 +9,7 @@ use Rattle.liquid_strings.specs.meaning.Cases.{lowercased}
 use Rattle.filter_strings.specs.meaning.Written.{written}
 use Rattle.filter_values.specs.meaning.Errors.{unexpected_arguments}
 use Rattle.jekyll_texts.specs.declared.slugs.SlugMode.{SlugMode}
-use Rattle.jekyll_texts.specs.declared.slugs.SlugMode.TheVariants.{Ascii, Default, Pretty, Raw}
+use Rattle.jekyll_texts.specs.declared.slugs.SlugMode.TheVariants.{Ascii, Default, Latin, Pretty, Raw}
 use Rattle.jekyll_texts.specs.declared.words.WordMode.{WordMode}
 use Rattle.jekyll_texts.specs.declared.words.WordMode.TheVariants.{Auto, Mixed, Spaced}
 use Rattle.jekyll_texts.specs.meaning.Escape as escape
@@ -48,6 +48,7 @@ slug_mode name =
     else if bytes_eq name (codes "raw") then Some Raw
     else if bytes_eq name (codes "pretty") then Some Pretty
     else if bytes_eq name (codes "ascii") then Some Ascii
+    else if bytes_eq name (codes "latin") then Some Latin
     else None
 
 -- the slug by a mode; any other name of one gives the text in lower case

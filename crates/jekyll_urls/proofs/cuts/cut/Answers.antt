@@ -1,4 +1,4 @@
-use Rattle.std.proofs.Common.{Some, None, sym, ◌≡◌, ◌+◌, ◌-◌, ap, ◌∙◌, take, drop, length, arith, refl}
+use Rattle.std.proofs.Common.{Some, None, sym, ◌≡◌, ◌-◌, arith, refl}
 use Rattle.memchr.proofs.lemmas.ValueLemmas.{FindsNeedle-value}
 use Rattle.liquid_strings.proofs.PlaceLemmas.{cut_at_first, cut_after}
 use Rattle.jekyll_urls.proofs.cuts.cut.Goals as goal

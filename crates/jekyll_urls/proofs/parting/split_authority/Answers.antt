@@ -1,7 +1,6 @@
-use Rattle.std.proofs.Common.{arith, ap, ◌∙◌, sym, subst, ◌≡◌, ◌≤◌, length}
-use Rattle.std.specs.List.{prefix_len}
+use Rattle.std.proofs.Common.{ap, ◌∙◌, sym, subst, ◌≡◌, ◌≤◌, length}
 use Rattle.std.specs.Str.{IsCharBoundary}
-use Rattle.jekyll_urls.specs.meaning.Parting.{authority_length, is_inside}
+use Rattle.jekyll_urls.specs.meaning.Parting.{authority_length}
 use Rattle.jekyll_urls.proofs.CutLemmas.{before_slash}
 use Rattle.jekyll_urls.proofs.parting.split_authority.Goals as goal
 

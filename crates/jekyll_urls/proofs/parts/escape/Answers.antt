@@ -1,4 +1,3 @@
-use Rattle.std.proofs.Common.{◌∙◌}
 use Rattle.jekyll_urls.specs.declared.parts.UrlPart.TheVariants.{Whole, Segment, Field, Fragment}
 use Rattle.jekyll_urls.proofs.PartLemmas.{all_bytes}
 use Rattle.jekyll_urls.proofs.parts.escape.Goals as goal
