@@ -5,3 +5,4 @@ mod dates;
 mod keys;
 mod lists;
 mod texts;
+mod typography;
