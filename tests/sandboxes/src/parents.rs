@@ -1,7 +1,7 @@
 //! The parents of sandboxes, and what is left of one.
 use liquid_core::Error;
 use liquid_core::model::{Object, Value, ValueSource, to_object};
-use liquid_core::runtime::{BuiltRuntime, Interrupt, Runtime, RuntimeBuilder};
+use liquid_core::runtime::{BuiltRuntime, Interrupt, Runtime, RuntimeBuilder, Seen};
 use rows::{Line, Row, is_text};
 use std::alloc::{AllocError, Global};
 use test_plugins::Visits;
@@ -166,15 +166,23 @@ fn has_value(
     }
 }
 
+/// Returns the value of a name, if it is lent.
+fn lent<'r, R: Runtime>(runtime: &'r R, name: &str) -> Option<&'r Value> {
+    match runtime.try_get_name(name) {
+        Some(Seen::Lent(value)) => Some(value),
+        _ => None,
+    }
+}
+
 /// Returns `true` if the names are what a row leaves. A name that is counted is seen if it has no other value.
 fn are_names_left<R: Runtime, Q: Runtime>(alloc: Global, row: &Row, before: &R, after: &Q) -> bool {
     for name in NAMES {
-        let was = before.try_get_name(name);
+        let was = lent(before, name);
         let left = match row.text_within("assigned", name) {
             None if was.is_none() => row.text_within("counted", name),
             left => left,
         };
-        if !has_value(alloc, left, was, after.try_get_name(name)) {
+        if !has_value(alloc, left, was, lent(after, name)) {
             return false;
         }
     }

@@ -3,7 +3,9 @@ use crate::parents::{STRICT, over};
 use crate::sites::data;
 use liquid_core::model::{Object, Value, ValueRender};
 use liquid_core::parser::parse;
-use liquid_core::runtime::{BuiltRuntime, Fresh, Runtime, RuntimeBuilder, SandboxedStackFrame};
+use liquid_core::runtime::{
+    BuiltRuntime, Fresh, Runtime, RuntimeBuilder, SandboxedStackFrame, Seen,
+};
 use liquid_core::{Error, Sink, Template, TextSink, render_source};
 use rows::{Line, Row, holds, is_text, rows_hold};
 use std::alloc::{AllocError, Global};
@@ -15,8 +17,8 @@ use test_plugins::{AnyFilter, BlockNode, TagNode};
 /// Returns the rendered text of a name's value, or `-` if it has none.
 fn shown<R: Runtime>(alloc: Global, runtime: &R, name: &str) -> Result<String, AllocError> {
     match runtime.try_get_name(name) {
-        Some(value) => ValueRender::new(value).to_string(alloc),
-        None => String::from_str(alloc, "-"),
+        Some(Seen::Lent(value)) => ValueRender::new(value).to_string(alloc),
+        _ => String::from_str(alloc, "-"),
     }
 }
 
