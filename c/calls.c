@@ -42,7 +42,7 @@ static int copy_partials(whole_page *made) {
 /* Copies a page. Without LIQUID_NOW it may be of a program for version 2 of the header, and end before its moment. */
 static liquid_page copy_page(const liquid_page *page) {
     liquid_page copy;
-    int has_moment = page->options < 2 * LIQUID_NOW && (page->options & LIQUID_NOW);
+    int has_moment = page->options < 2 * LIQUID_JEKYLL && (page->options & LIQUID_NOW);
     size_t size = has_moment ? sizeof copy : offsetof(liquid_page, now);
     copy.now = liquid_bytes_of(NULL, 0);
     memcpy(&copy, page, size);

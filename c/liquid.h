@@ -31,7 +31,7 @@
 extern "C" {
 #endif
 
-#define LIQUID_VERSION 3
+#define LIQUID_VERSION 4
 
 /* Bytes of the caller's. No zero byte ends them. */
 typedef struct liquid_bytes {
@@ -48,14 +48,18 @@ typedef struct liquid_partial {
 /* The options of a page: none of these (0), or some of them, joined by |. */
 enum {
     LIQUID_SANDBOXED = 1, /* the globals are the data of a sandbox: what the template assigns goes nowhere. A
-                             template of standard Liquid sees it until the page ends */
+                             template of standard Liquid or of Jekyll sees it until the page ends */
     LIQUID_LENIENT = 2,   /* a name or an index without a value is nil instead of an error */
     LIQUID_STANDARD = 4,  /* the template has the tags, blocks and filters of standard Liquid; without it, the few
                              tags and blocks of liquid_tags, and no filters */
     LIQUID_DECIMALS = 8,  /* a number of the globals with a fraction is a decimal: a string of its digits, with which
                              the standard filters calculate exactly. Without it, it is LIQUID_NO_GLOBALS */
-    LIQUID_NOW = 16       /* the page has the member now, which is the moment that "now" and "today" are for the filter
+    LIQUID_NOW = 16,      /* the page has the member now, which is the moment that "now" and "today" are for the filter
                              date. Without it, the member is not read, and they are no dates */
+    LIQUID_JEKYLL = 32    /* the template and the partials are as Jekyll's authors write them, in Jekyll's language: the tags,
+                             blocks and filters of standard Liquid and Jekyll's. A missing name is nil, as with
+                             LIQUID_LENIENT, and so is a value with an index that is not a scalar. LIQUID_STANDARD
+                             changes nothing beside it */
 };
 
 typedef struct liquid_page {
@@ -102,7 +106,8 @@ typedef struct liquid_outcome {
     uint32_t which;
     size_t partial;     /* LIQUID_PARTIAL_NAME and LIQUID_PARTIAL_TEXT: the number of the partial, from 0 */
     size_t line;        /* where the error is in that text (the template, the globals or a partial), from 1; */
-    size_t column;      /* 0 if it has no place. Columns count characters, but bytes in JSON */
+    size_t column;      /* 0 if it has no place. Columns count characters, but bytes in JSON. With LIQUID_JEKYLL they are
+                           those of the text with quotes, which Jekyll's authors leave out */
     size_t needed;      /* how many bytes were rendered */
     size_t written;     /* how many of them are in out: the smaller of needed and out_len */
     size_t message_len; /* how many bytes the text of the error has; message has the first of them. 0 if there is no

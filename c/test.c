@@ -98,9 +98,10 @@ static const row_type rows[] = {
     {"no decimals", "{{ x }}", "{\"x\": 1.50}", 0, 0, 0, 0, ROOM, LIQUID_NO_GLOBALS, 0, 0, 0, 0, 0, "", "liquid: Fractional number\n"},
     {"standard", "{{ 'a' | upcase }}", "{}", 0, LIQUID_STANDARD, 0, 0, ROOM, LIQUID_OK, 0, 0, 0, 0, 1, "A", ""},
     {"standard tags", "{% for i in (1..3) reversed %}{% cycle 'a', 'b' %}{{ i }}{% endfor %}", "{}", 0, LIQUID_STANDARD, 0, 0, ROOM, LIQUID_OK, 0, 0, 0, 0, 6, "a3b2a1", ""},
+    {"Jekyll's tags and filters", "{% include a y=1 %}{{ '/d e' | relative_url }}<{{ none[none].b }}>", "{\"site\": {\"baseurl\": \"/b\"}}", 1, LIQUID_JEKYLL, 0, 0, ROOM, LIQUID_OK, 0, 0, 0, 0, 12, "[]/b/d%20e<>", ""},
     {"no standard tags", "{% capture x %}{% endcapture %}", "{}", 0, 0, 0, 0, ROOM, LIQUID_UNPARSED, 0, 0, 1, 4, 0, "", NULL},
-    {"all options but a moment", "{{ a | upcase }}", "{}", 0, 15, 0, 0, ROOM, LIQUID_OK, 0, 0, 0, 0, 0, "", ""},
-    {"no option", "a", "{}", 0, 32, 0, 0, ROOM, LIQUID_NO_OPTIONS, 0, 0, 0, 0, 0, "", ""},
+    {"all options but a moment", "{{ a | upcase }}", "{}", 0, 47, 0, 0, ROOM, LIQUID_OK, 0, 0, 0, 0, 0, "", ""},
+    {"no option", "a", "{}", 0, 64, 0, 0, ROOM, LIQUID_NO_OPTIONS, 0, 0, 0, 0, 0, "", ""},
     {"all bits", "a", "{}", 0, UINT32_MAX, 0, 0, ROOM, LIQUID_NO_OPTIONS, 0, 0, 0, 0, 0, "", ""},
     {"turns", "{% for i in (1..3) %}{{ i }}{% endfor %}", "{}", 0, 0, 4, 0, ROOM, LIQUID_OK, 0, 0, 0, 0, 3, "123", ""},
     {"too many turns", "{% for i in (1..3) %}{{ i }}{% endfor %}", "{}", 0, 0, 2, 0, ROOM, LIQUID_REFUSED, 0, 0, 1, 4, 2, "12", NULL},
@@ -309,7 +310,7 @@ static const moment_type moments[] = {
     {"no moment", "2024-02-29", clock_text, LIQUID_STANDARD, LIQUID_OK, "now"},
     {"a bad moment that is not asked for", "x", clock_text, LIQUID_STANDARD, LIQUID_OK, "now"},
     {"no filters", "2024-02-29", "a", LIQUID_NOW, LIQUID_OK, "a"},
-    {"all options", "2024-02-29", "{{ 'now' | date: '%F' }}", 31, LIQUID_OK, "2024-02-29"},
+    {"all options", "2024-02-29", "{{ 'now' | date: '%F' }}", 63, LIQUID_OK, "2024-02-29"},
     {"a day that no calendar has", "2023-02-29", "{{", LIQUID_STANDARD | LIQUID_NOW, LIQUID_NO_MOMENT, ""},
     {"words", "in a while", "{{", LIQUID_STANDARD | LIQUID_NOW, LIQUID_NO_MOMENT, ""},
     {"now is now", "now", "{{", LIQUID_STANDARD | LIQUID_NOW, LIQUID_NO_MOMENT, ""},
@@ -317,7 +318,7 @@ static const moment_type moments[] = {
     {"no text", "", "a", LIQUID_STANDARD | LIQUID_NOW, LIQUID_NO_MOMENT, ""},
     {"a null pointer", NULL, "a", LIQUID_STANDARD | LIQUID_NOW, LIQUID_NO_MOMENT, ""},
     {"a bad moment without filters", "x", "a", LIQUID_NOW, LIQUID_NO_MOMENT, ""},
-    {"a bad moment with unknown options", "x", "a", 32 | LIQUID_NOW, LIQUID_NO_OPTIONS, ""},
+    {"a bad moment with unknown options", "x", "a", 64 | LIQUID_NOW, LIQUID_NO_OPTIONS, ""},
 };
 
 /* The moment of a page, by one call and by a call over many globals. */
@@ -401,7 +402,7 @@ static void try_each(void) {
     check(whole == 1 && each[0].kind == LIQUID_OK && each[1].kind == UINT32_MAX, row.name, "fewer outcomes");
     whole = liquid_render_each(&page, globals, 0, out, sizeof out, message, 0, each, 0);
     check(whole == 0, row.name, "no globals");
-    page.options = 32;
+    page.options = 64;
     whole = liquid_render_each(&page, globals, 2, out, sizeof out, message, sizeof message, each, 4);
     check(whole == 0 && each[0].kind == LIQUID_NO_OPTIONS && each[1].kind == LIQUID_NO_OPTIONS, row.name, "no options");
     check(each[0].needed == 0 && each[0].written == 0 && each[2].kind == UINT32_MAX, row.name, "nothing written");

@@ -7,10 +7,14 @@ import os
 import shutil
 import subprocess
 import sys
+import threading
 from pathlib import Path
 from types import ModuleType
 
 TOP = Path(__file__).resolve().parent.parent
+
+# A module is listed before its code has run, so two threads must not load one at the same time.
+LOADING = threading.RLock()
 
 
 def load(path: str | Path) -> ModuleType:
@@ -25,7 +29,8 @@ def load(path: str | Path) -> ModuleType:
 
 def load_script(name: str) -> ModuleType:
     """Loads a script of this folder as a module."""
-    return sys.modules.get(name) or load(TOP / "tools" / name)
+    with LOADING:
+        return sys.modules.get(name) or load(TOP / "tools" / name)
 
 
 def find_kit() -> Path:

@@ -26,7 +26,8 @@ class Environment:
     All templates of the loader are partials of each page, under their names. They are read when a page is first
     rendered, and again when the loader has other texts. ``loader`` is a ``DictLoader``, a ``FileSystemLoader`` or any
     object with their methods ``names`` and ``read``; without one there are no partials. The other arguments are those
-    of ``render``, but ``standard`` is true: templates have the tags, blocks and filters of standard Liquid.
+    of ``render``, but ``standard`` is true: templates have the tags, blocks and filters of standard Liquid. With
+    ``jekyll`` they and the partials are as Jekyll's authors write them, in Jekyll's language.
 
     What the loader raises, such as an ``OSError``, is raised when a page is rendered. An environment and its templates
     may be used by several threads at once.
@@ -44,10 +45,11 @@ class Environment:
         max_memory: int = 0,
         now: Now = None,
         default: Default = None,
+        jekyll: bool = False,
     ) -> None:
         self.loader = loader
         self.default = default
-        self.options = Options(sandboxed, lenient, standard, max_turns, max_bytes, max_memory, now)
+        self.options = Options(sandboxed, lenient, standard, max_turns, max_bytes, max_memory, now, jekyll)
         self._kept: dict[str, Template] = {}
         self._partials = Partials({})
 

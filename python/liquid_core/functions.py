@@ -23,6 +23,7 @@ def render(
     max_memory: int = 0,
     now: Now = None,
     default: Default = None,
+    jekyll: bool = False,
 ) -> str:
     """Renders a template over globals, and returns the page.
 
@@ -40,12 +41,14 @@ def render(
     holds at most ``max_memory`` bytes at any moment; a page that takes more ends with a ``MemoryLimitError``. The
     arguments and the page that is returned are Python's memory, and don't count. 0 means no limit.
     ``now`` is the moment that ``"now"`` and ``"today"`` are for the filter ``date``: a date time with a time zone, or a
-    string that the filter reads. Without it, they are no dates.
+    string that the filter reads. Without it, they are no dates. With ``jekyll`` the template and the partials are as
+    Jekyll's authors write them, with the tags, blocks and filters of standard Liquid and of Jekyll, and a name without a
+    value is nil.
 
     Raises ``LiquidError`` if the page was not rendered to its end, and ``TypeError`` or ``ValueError``, with the path
     of the value, for globals that a template can't have.
     """
-    options = Options(sandboxed, lenient, standard, max_turns, max_bytes, max_memory, now)
+    options = Options(sandboxed, lenient, standard, max_turns, max_bytes, max_memory, now, jekyll)
     return render_source(Source(template, Partials(partials), options), json_of(globals, default)).decode()
 
 
@@ -62,6 +65,7 @@ def render_each(
     max_memory: int = 0,
     now: Now = None,
     default: Default = None,
+    jekyll: bool = False,
 ) -> list[str | LiquidError]:
     """Renders a template over each of these globals, and returns the pages in their order.
 
@@ -72,6 +76,6 @@ def render_each(
     ``render`` returns over these globals; in the place of a page that was not rendered to its end is the
     ``LiquidError`` that ``render`` raises.
     """
-    options = Options(sandboxed, lenient, standard, max_turns, max_bytes, max_memory, now)
+    options = Options(sandboxed, lenient, standard, max_turns, max_bytes, max_memory, now, jekyll)
     texts = (json_of(names, default, f"globals[{number}]") for number, names in enumerate(globals))
     return render_each_source(Source(template, Partials(partials), options), texts)

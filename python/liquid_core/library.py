@@ -17,8 +17,8 @@ from .values import Now, Text, moment_of
 
 __all__ = ["Options", "Partials", "Source", "proved", "render_each_source", "render_source"]
 
-_VERSION = 3
-_SANDBOXED, _LENIENT, _STANDARD, _DECIMALS, _NOW = 1, 2, 4, 8, 16
+_VERSION = 4
+_SANDBOXED, _LENIENT, _STANDARD, _DECIMALS, _NOW, _JEKYLL = 1, 2, 4, 8, 16, 32
 _OK = 0
 # The texts of a page that an outcome names: the globals, the name of a partial, its text.
 _GLOBALS, _OF_PARTIALS = 1, (2, 3)
@@ -98,6 +98,7 @@ class Options:
     max_bytes: int = 0
     max_memory: int = 0
     now: Now = None
+    jekyll: bool = False
 
     def __post_init__(self) -> None:
         for limit in (self.max_turns, self.max_bytes, self.max_memory):
@@ -108,7 +109,7 @@ class Options:
     def bits(self) -> int:
         """Returns the options as the library takes them."""
         chosen = _SANDBOXED * bool(self.sandboxed) | _LENIENT * bool(self.lenient) | _STANDARD * bool(self.standard)
-        return _DECIMALS | chosen | _NOW * (self.now is not None)
+        return _DECIMALS | chosen | _NOW * (self.now is not None) | _JEKYLL * bool(self.jekyll)
 
     def moment(self) -> bytes:
         """Returns the text of the moment, if there is one."""

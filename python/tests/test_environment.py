@@ -36,6 +36,7 @@ class Environments(unittest.TestCase):
         ({"sandboxed": True, "standard": False}, "{% assign x = 2 %}{{ x }}", {"x": 1}, "1"),
         ({"max_turns": 100, "max_bytes": 4, "max_memory": 1 << 20}, "{{ 'rain' }}", {}, "rain"),
         ({"now": "2024-02-29 04:05"}, "{{ 'now' | date: '%e %B' }}{{ now }}", {"now": "!"}, "29 February!"),
+        ({"jekyll": True}, "{% if none.a %}{% endif %}{{ t | slugify }} {{ u | absolute_url }}", {"t": "Night herons!", "u": "b", "site": {"url": "http://a.b", "baseurl": "/c"}}, "night-herons http://a.b/c/b"),
         ({"now": datetime(2024, 2, 29, tzinfo=timezone.utc)}, "{{ 'today' | date: '%F %z' }}", {}, "2024-02-29 +0000"),
     ]
 
@@ -43,6 +44,18 @@ class Environments(unittest.TestCase):
         for options, template, names, page in self.ROWS:
             with self.subTest(options):
                 self.assertEqual(Environment(**options).from_string(template).render(names), page)
+
+    def test_pages_of_jekyll(self):
+        texts = {
+            "default.html": "<h1>{{ page.title | escape }}</h1>{% include nav/item.html url=page.url %}{{ content }}",
+            "nav/item.html": "<a href=\"{{ include.url | relative_url }}\">{% include_cached nav/{{ page.kind }}.svg %}</a>",
+            "nav/bird.svg": "<svg/>",
+        }
+        env = Environment(DictLoader(texts), jekyll=True)
+        names = {"page": {"title": "Owls & herons", "url": "/birds/owl", "kind": "bird"}, "site": {"baseurl": "/notes"}, "content": "-"}
+        page = "<h1>Owls &amp; herons</h1><a href=\"/notes/birds/owl\"><svg/></a>-"
+        self.assertEqual(env.get_template("default.html").render(names), page)
+        self.assertEqual(env.get_template("default.html").render_each([names, names]), [page, page])
 
     def test_options_are_keywords(self):
         with self.assertRaises(TypeError):

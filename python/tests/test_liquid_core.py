@@ -35,6 +35,8 @@ class Pages(unittest.TestCase):
         ("{{ x }} {{ y }}", '{"x": 1e3, "y": 1.50}', {}, "1000 1.50"),
         ("{{ x }} {{ y }} {{ z }}", {"x": Decimal("12.50"), "y": Decimal("1E+3"), "z": [Decimal("-0.05")]}, {}, "12.50 1000 -0.05"),
         ("{% if x == 5 %}five{% endif %}", {"x": Decimal(5)}, {}, "five"),
+        ("{{ '/a b' | relative_url }}{% highlight c++ %}a < b{% endhighlight %}{{ none.x }}", {}, {"jekyll": True},
+         '/a%20b<figure class="highlight"><pre><code class="language-c--" data-lang="c++">a &lt; b</code></pre></figure>'),
         ("{{ 'rain' }}", {}, {"max_bytes": 4, "max_turns": 2**64 - 1}, "rain"),
         ("{% for i in (1..4000) %}{{ i }} {% endfor %}", {}, {}, "".join(f"{i} " for i in range(1, 4001))),
     ]

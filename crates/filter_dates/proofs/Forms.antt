@@ -4,15 +4,15 @@ use Rattle.jiff_core.specs.declared.civil.date.Date.{Date as CivilDate}
 use Rattle.liquid_dates.specs.declared.date_time.DateTime.{DateTime}
 use Rattle.liquid_dates.specs.meaning.DateText.{
   first,
-  dashed_date,
+  iso_date,
   long_date,
   short_date,
   date_forms,
-  dashed_date_time,
+  iso_date_time,
   fraction_date_time,
   long_date_time,
   short_date_time,
-  slashed_date_time,
+  us_date_time,
   weekday_date_time,
   day_forms,
   date_time_forms,
@@ -23,16 +23,16 @@ use Rattle.liquid_dates.specs.steps.DateReader.{
   Read,
   whole_of,
   joined_at,
-  dashed_at,
-  long_at,
-  short_at,
-  offset_at,
-  timed_dashed_at,
-  timed_fraction_at,
-  timed_long_at,
-  timed_short_at,
-  timed_slashed_at,
-  timed_weekday_at,
+  read_iso_date,
+  read_long_date,
+  read_short_date,
+  read_offset,
+  read_iso_stamp,
+  read_fraction_stamp,
+  read_long_stamp,
+  read_short_stamp,
+  read_us_stamp,
+  read_weekday_stamp,
 }
 use Rattle.liquid_dates.proofs.PairForms.{
   Form,
@@ -91,14 +91,14 @@ unfolding long_date
 long_decided text =
     same_decided (Written (day_month month_name) day_first text) (long_date text) (day_month_is month_name text)
     (λ d h. ((d.day, (d.month, d.year)), h, (refl, refl, refl)))
-    (written_decided (day_month month_name) long_at long_reads day_first (λ v. on_decided v.1.1 v.1.0 v.0) text)
+    (written_decided (day_month month_name) read_long_date long_reads day_first (λ v. on_decided v.1.1 v.1.0 v.0) text)
 
 short_decided : (text : List ℕ) → Decided (short_date text)
 unfolding short_date
 short_decided text =
     same_decided (Written (day_month short_month_name) day_first text) (short_date text) (day_month_is short_month_name text)
     (λ d h. ((d.day, (d.month, d.year)), h, (refl, refl, refl)))
-    (written_decided (day_month short_month_name) short_at short_reads day_first (λ v. on_decided v.1.1 v.1.0 v.0) text)
+    (written_decided (day_month short_month_name) read_short_date short_reads day_first (λ v. on_decided v.1.1 v.1.0 v.0) text)
 
 abbrev year_first : ℤ × (ℕ × ℕ) → CivilDate → Type 0
 year_first v = IsOn v.0 v.1.0 v.1.1
@@ -106,17 +106,17 @@ year_first v = IsOn v.0 v.1.0 v.1.1
 dashed_is : (text : List ℕ) (d : CivilDate) → Written dashed year_first text d → dashed text (d.year, (d.month, d.day))
 dashed_is text d ((year, (month, day)), f, is) = subst (λ (v : ℤ × (ℕ × ℕ)). dashed text v) (rw (is.0, is.1, is.2) refl) f
 
-dashed_decided : (text : List ℕ) → Decided (dashed_date text)
-unfolding dashed_date
+dashed_decided : (text : List ℕ) → Decided (iso_date text)
+unfolding iso_date
 dashed_decided text =
-    same_decided (Written dashed year_first text) (dashed_date text) (dashed_is text)
+    same_decided (Written dashed year_first text) (iso_date text) (dashed_is text)
     (λ d h. ((d.year, (d.month, d.day)), h, (refl, refl, refl)))
-    (written_decided dashed dashed_at dashed_reads year_first (λ v. on_decided v.0 v.1.0 v.1.1) text)
+    (written_decided dashed read_iso_date dashed_reads year_first (λ v. on_decided v.0 v.1.0 v.1.1) text)
 
 pub date_decided : (text : List ℕ) → Decided (date_forms text)
 date_decided text =
-    first_decided long_date (first short_date dashed_date) text (long_decided text)
-    (first_decided short_date dashed_date text (short_decided text) (dashed_decided text))
+    first_decided long_date (first short_date iso_date) text (long_decided text)
+    (first_decided short_date iso_date text (short_decided text) (dashed_decided text))
 
 -- date times
 here : (dt : DateTime) → IsAt (civil_date dt).year (civil_date dt).month (civil_date dt).day (civil_time dt).hour (civil_time dt).minute
@@ -136,8 +136,8 @@ module _ {V : Type 0} (F : Form V) (r : List ℕ → Read V) (reads : Reads F r)
 
   timed_decided : (text : List ℕ) → Decided (Timed text)
   timed_decided text =
-      written_decided (joined F 32 offset_form) (joined_at r 32 offset_at)
-      (joined_reads F r 32 offset_form offset_at reads offset_reads refl) (λ p. Is p.0 p.1) (λ p. made p.0 p.1) text
+      written_decided (joined F 32 offset_form) (joined_at r 32 read_offset)
+      (joined_reads F r 32 offset_form read_offset reads offset_reads refl) (λ p. Is p.0 p.1) (λ p. made p.0 p.1) text
 
 -- the parts of a date time, in the order of a form
 abbrev Ymd : Type 0
@@ -164,28 +164,28 @@ day_made v z = at_decided v.0.1.1 v.0.1.0 v.0.0 v.1.0 v.1.1.0 v.1.1.1 0 z
 month_made : (v : Dmy) (z : ℤ) → Decided (by_month v z)
 month_made v z = at_decided v.0.1.1 v.0.0 v.0.1.0 v.1.0 v.1.1.0 v.1.1.1 0 z
 
-dashed_time_is : (text : List ℕ) (dt : DateTime) → Timed timed_dashed timed_dashed_at timed_dashed_reads by_year year_made text dt
-    → dashed_date_time text dt
-unfolding dashed_date_time
+dashed_time_is : (text : List ℕ) (dt : DateTime) → Timed timed_dashed read_iso_stamp timed_dashed_reads by_year year_made text dt
+    → iso_date_time text dt
+unfolding iso_date_time
 dashed_time_is text dt (p, f, is) = (
   of_parts (λ y m d h i s n z. joined timed_dashed 32 offset_form text (((y, (m, d)), (h, (i, s))), z)) p.0.0.0 p.0.0.1.0 p.0.0.1.1
       p.0.1.0 p.0.1.1.0 p.0.1.1.1 0 p.1 dt is f,
   is.of_nano,
 )
 
-dashed_time_decided : (text : List ℕ) → Decided (dashed_date_time text)
-unfolding dashed_date_time
+dashed_time_decided : (text : List ℕ) → Decided (iso_date_time text)
+unfolding iso_date_time
 dashed_time_decided text =
-    same_decided (Timed timed_dashed timed_dashed_at timed_dashed_reads by_year year_made text) (dashed_date_time text)
+    same_decided (Timed timed_dashed read_iso_stamp timed_dashed_reads by_year year_made text) (iso_date_time text)
     (dashed_time_is text)
     (λ dt h. (
       ((((civil_date dt).year, ((civil_date dt).month, (civil_date dt).day)), hms dt.local), offset_seconds dt),
       h.0,
       whole_second dt h.1,
     ))
-    (timed_decided timed_dashed timed_dashed_at timed_dashed_reads by_year year_made text)
+    (timed_decided timed_dashed read_iso_stamp timed_dashed_reads by_year year_made text)
 
-long_time_is : (text : List ℕ) (dt : DateTime) → Timed (timed_day_month month_name) timed_long_at timed_long_reads by_day day_made text dt
+long_time_is : (text : List ℕ) (dt : DateTime) → Timed (timed_day_month month_name) read_long_stamp timed_long_reads by_day day_made text dt
     → long_date_time text dt
 unfolding long_date_time
 long_time_is text dt (p, f, is) = (
@@ -197,16 +197,16 @@ long_time_is text dt (p, f, is) = (
 long_time_decided : (text : List ℕ) → Decided (long_date_time text)
 unfolding long_date_time
 long_time_decided text =
-    same_decided (Timed (timed_day_month month_name) timed_long_at timed_long_reads by_day day_made text) (long_date_time text)
+    same_decided (Timed (timed_day_month month_name) read_long_stamp timed_long_reads by_day day_made text) (long_date_time text)
     (long_time_is text)
     (λ dt h. (
       ((((civil_date dt).day, ((civil_date dt).month, (civil_date dt).year)), hms dt.local), offset_seconds dt),
       h.0,
       whole_second dt h.1,
     ))
-    (timed_decided (timed_day_month month_name) timed_long_at timed_long_reads by_day day_made text)
+    (timed_decided (timed_day_month month_name) read_long_stamp timed_long_reads by_day day_made text)
 
-short_time_is : (text : List ℕ) (dt : DateTime) → Timed (timed_day_month short_month_name) timed_short_at timed_short_reads by_day day_made
+short_time_is : (text : List ℕ) (dt : DateTime) → Timed (timed_day_month short_month_name) read_short_stamp timed_short_reads by_day day_made
     text dt → short_date_time text dt
 unfolding short_date_time
 short_time_is text dt (p, f, is) = (
@@ -218,35 +218,35 @@ short_time_is text dt (p, f, is) = (
 short_time_decided : (text : List ℕ) → Decided (short_date_time text)
 unfolding short_date_time
 short_time_decided text =
-    same_decided (Timed (timed_day_month short_month_name) timed_short_at timed_short_reads by_day day_made text) (short_date_time text)
+    same_decided (Timed (timed_day_month short_month_name) read_short_stamp timed_short_reads by_day day_made text) (short_date_time text)
     (short_time_is text)
     (λ dt h. (
       ((((civil_date dt).day, ((civil_date dt).month, (civil_date dt).year)), hms dt.local), offset_seconds dt),
       h.0,
       whole_second dt h.1,
     ))
-    (timed_decided (timed_day_month short_month_name) timed_short_at timed_short_reads by_day day_made text)
+    (timed_decided (timed_day_month short_month_name) read_short_stamp timed_short_reads by_day day_made text)
 
-slashed_time_is : (text : List ℕ) (dt : DateTime) → Timed timed_slashed timed_slashed_at timed_slashed_reads by_month month_made text dt
-    → slashed_date_time text dt
-unfolding slashed_date_time
+slashed_time_is : (text : List ℕ) (dt : DateTime) → Timed timed_slashed read_us_stamp timed_slashed_reads by_month month_made text dt
+    → us_date_time text dt
+unfolding us_date_time
 slashed_time_is text dt (p, f, is) = (
   of_parts (λ y m d h i s n z. joined timed_slashed 32 offset_form text (((m, (d, y)), (h, (i, s))), z)) p.0.0.1.1 p.0.0.0 p.0.0.1.0
       p.0.1.0 p.0.1.1.0 p.0.1.1.1 0 p.1 dt is f,
   is.of_nano,
 )
 
-slashed_time_decided : (text : List ℕ) → Decided (slashed_date_time text)
-unfolding slashed_date_time
+slashed_time_decided : (text : List ℕ) → Decided (us_date_time text)
+unfolding us_date_time
 slashed_time_decided text =
-    same_decided (Timed timed_slashed timed_slashed_at timed_slashed_reads by_month month_made text) (slashed_date_time text)
+    same_decided (Timed timed_slashed read_us_stamp timed_slashed_reads by_month month_made text) (us_date_time text)
     (slashed_time_is text)
     (λ dt h. (
       ((((civil_date dt).month, ((civil_date dt).day, (civil_date dt).year)), hms dt.local), offset_seconds dt),
       h.0,
       whole_second dt h.1,
     ))
-    (timed_decided timed_slashed timed_slashed_at timed_slashed_reads by_month month_made text)
+    (timed_decided timed_slashed read_us_stamp timed_slashed_reads by_month month_made text)
 
 -- with a fraction
 abbrev Exact : Type 0
@@ -258,7 +258,7 @@ exactly v z = IsAt v.0.0 v.0.1.0 v.0.1.1 v.1.0.0 v.1.0.1.0 v.1.0.1.1 v.1.1 z
 exact_made : (v : Exact) (z : ℤ) → Decided (exactly v z)
 exact_made v z = at_decided v.0.0 v.0.1.0 v.0.1.1 v.1.0.0 v.1.0.1.0 v.1.0.1.1 v.1.1 z
 
-fraction_time_is : (text : List ℕ) (dt : DateTime) → Timed timed_fraction timed_fraction_at timed_fraction_reads exactly exact_made text dt
+fraction_time_is : (text : List ℕ) (dt : DateTime) → Timed timed_fraction read_fraction_stamp timed_fraction_reads exactly exact_made text dt
     → fraction_date_time text dt
 unfolding fraction_date_time
 fraction_time_is text dt (p, f, is) =
@@ -268,14 +268,14 @@ fraction_time_is text dt (p, f, is) =
 fraction_time_decided : (text : List ℕ) → Decided (fraction_date_time text)
 unfolding fraction_date_time
 fraction_time_decided text =
-    same_decided (Timed timed_fraction timed_fraction_at timed_fraction_reads exactly exact_made text) (fraction_date_time text)
+    same_decided (Timed timed_fraction read_fraction_stamp timed_fraction_reads exactly exact_made text) (fraction_date_time text)
     (fraction_time_is text)
     (λ dt h. (
       ((((civil_date dt).year, ((civil_date dt).month, (civil_date dt).day)), (hms dt.local, nanosecond dt)), offset_seconds dt),
       h,
       here dt,
     ))
-    (timed_decided timed_fraction timed_fraction_at timed_fraction_reads exactly exact_made text)
+    (timed_decided timed_fraction read_fraction_stamp timed_fraction_reads exactly exact_made text)
 
 -- with a weekday, which may be any
 abbrev Named : Type 0
@@ -287,7 +287,7 @@ by_name v z = IsAt v.1.1.1.1 v.1.0 v.1.1.0 v.1.1.1.0.0 v.1.1.1.0.1.0 v.1.1.1.0.1
 name_made : (v : Named) (z : ℤ) → Decided (by_name v z)
 name_made v z = at_decided v.1.1.1.1 v.1.0 v.1.1.0 v.1.1.1.0.0 v.1.1.1.0.1.0 v.1.1.1.0.1.1 0 z
 
-weekday_time_is : (text : List ℕ) (dt : DateTime) → Timed timed_weekday timed_weekday_at timed_weekday_reads by_name name_made text dt
+weekday_time_is : (text : List ℕ) (dt : DateTime) → Timed timed_weekday read_weekday_stamp timed_weekday_reads by_name name_made text dt
     → weekday_date_time text dt
 unfolding weekday_date_time
 weekday_time_is text dt (p, f, is) = (
@@ -300,22 +300,22 @@ weekday_time_is text dt (p, f, is) = (
 weekday_time_decided : (text : List ℕ) → Decided (weekday_date_time text)
 unfolding weekday_date_time
 weekday_time_decided text =
-    same_decided (Timed timed_weekday timed_weekday_at timed_weekday_reads by_name name_made text) (weekday_date_time text)
+    same_decided (Timed timed_weekday read_weekday_stamp timed_weekday_reads by_name name_made text) (weekday_date_time text)
     (weekday_time_is text)
     (λ dt h. (
       ((h.0, ((civil_date dt).month, ((civil_date dt).day, (hms dt.local, (civil_date dt).year)))), offset_seconds dt),
       h.1,
       whole_second dt h.2,
     ))
-    (timed_decided timed_weekday timed_weekday_at timed_weekday_reads by_name name_made text)
+    (timed_decided timed_weekday read_weekday_stamp timed_weekday_reads by_name name_made text)
 
 day_forms_decided : (text : List ℕ) → Decided (day_forms text)
 day_forms_decided text =
-    first_decided long_date_time (first short_date_time (first slashed_date_time weekday_date_time)) text (long_time_decided text)
-    (first_decided short_date_time (first slashed_date_time weekday_date_time) text (short_time_decided text)
-    (first_decided slashed_date_time weekday_date_time text (slashed_time_decided text) (weekday_time_decided text)))
+    first_decided long_date_time (first short_date_time (first us_date_time weekday_date_time)) text (long_time_decided text)
+    (first_decided short_date_time (first us_date_time weekday_date_time) text (short_time_decided text)
+    (first_decided us_date_time weekday_date_time text (slashed_time_decided text) (weekday_time_decided text)))
 
 pub date_time_decided : (text : List ℕ) → Decided (date_time_forms text)
 date_time_decided text =
-    first_decided dashed_date_time (first fraction_date_time day_forms) text (dashed_time_decided text)
+    first_decided iso_date_time (first fraction_date_time day_forms) text (dashed_time_decided text)
     (first_decided fraction_date_time day_forms text (fraction_time_decided text) (day_forms_decided text))

@@ -1,6 +1,7 @@
 pub mod CutLemmas
 pub mod TagLemmas
 pub mod PieceLemmas
+pub mod BlankLemmas
 pub mod NameLemmas
 pub mod NamePartLemmas
 pub mod ParameterLemmas

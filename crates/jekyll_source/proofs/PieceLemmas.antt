@@ -26,7 +26,6 @@ use Rattle.std.proofs.Common.{
   take,
   drop,
   codes,
-  flat_map,
   refl,
   sym,
   ap,
@@ -39,12 +38,10 @@ use Rattle.std.specs.Option.{option_map, option_map_or}
 use Rattle.std.specs.Str.{byte, bytes_eq}
 use Rattle.memchr.specs.Find.{first_of, matches}
 use Rattle.jekyll_source.specs.meaning.Bodies.{body_len, split_body}
+use Rattle.jekyll_source.specs.meaning.Piece.{Piece, plain}
 use Rattle.jekyll_source.specs.meaning.Pieces.{
-  Piece,
   Taken,
-  plain,
   first_piece,
-  jekyll_text,
   pieces,
   pieces_in,
   plain_len,
@@ -54,7 +51,6 @@ use Rattle.jekyll_source.specs.meaning.Pieces.{
   value_or_plain,
   value_taken,
   whole_value,
-  written,
 }
 use Rattle.jekyll_source.specs.meaning.Splits.{Parts, after_opener, split_around, split_at}
 use Rattle.jekyll_source.specs.meaning.Tags.{named}
@@ -145,15 +141,11 @@ next_piece b bs =
     let less = first_shorter b bs in
     ap (λ ps. (first_piece (b ∷ bs)).0 ∷ ps) (all_pieces (length bs) (length (first_piece (b ∷ bs)).1) (first_piece (b ∷ bs)).1 less (omega arith))
 
--- what is written for a text: that for its first piece, and for the rest
-pub next_written : (text : List ℕ) → text ≢ [] → jekyll_text text ≡ written (first_piece text).0 ++ jekyll_text (first_piece text).1
-next_written [] more = absurd (more refl)
-next_written (b ∷ bs) more = ap (flat_map written) (next_piece b bs)
-
--- one turn over the pieces of a text
-pub turn : (out new whole text rest : List ℕ) (p : Piece) → text ≢ [] → (p, rest) ≡ first_piece text → new ≡ out ++ written p
-    → out ++ jekyll_text text ≡ whole → new ++ jekyll_text rest ≡ whole
-turn out new whole text rest p more is grown held =
-    ap (λ l. l ++ jekyll_text rest) grown ∙ append_assoc out (written p) (jekyll_text rest)
-    ∙ ap (λ t. out ++ (written t.0 ++ jekyll_text t.1)) is
-    ∙ ap (λ l. out ++ l) (sym (next_written text more)) ∙ held
+-- one turn over the text
+pub turn : (rest text : List ℕ) (whole done new : List Piece) (p : Piece) → text ≢ [] → (p, rest) ≡ first_piece text
+    → new ≡ done ++ p ∷ [] → done ++ pieces text ≡ whole → new ++ pieces rest ≡ whole
+turn rest [] whole done new p more is grown held = absurd (more refl)
+turn rest (b ∷ bs) whole done new p more is grown held =
+    ap (λ l. l ++ pieces rest) grown ∙ append_assoc done (p ∷ []) (pieces rest)
+    ∙ ap (λ t. done ++ (t.0 ∷ pieces t.1)) is
+    ∙ ap (λ l. done ++ l) (sym (next_piece b bs)) ∙ held

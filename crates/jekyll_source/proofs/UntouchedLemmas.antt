@@ -25,7 +25,6 @@ use Rattle.std.proofs.Common.{
   take,
   drop,
   codes,
-  flat_map,
   refl,
   sym,
   ap,
@@ -40,15 +39,26 @@ use Rattle.std.specs.List.{All}
 use Rattle.std.specs.Option.{option_map, option_map_or}
 use Rattle.std.specs.Str.{byte, bytes_eq}
 use Rattle.memchr.specs.Find.{OccursAt, first_of, matches}
-use Rattle.jekyll_source.specs.laws.Untouched.{TakesNoName}
+use Rattle.jekyll_source.specs.laws.Untouched.{LeavesNothingOut, TakesNoName}
 use Rattle.jekyll_source.specs.meaning.Bodies.{body_len, split_body}
+use Rattle.jekyll_source.specs.meaning.Blank.{
+  Marked,
+  blank_ends,
+  innermost,
+  is_end,
+  is_start,
+  mark,
+  marked,
+  name_of,
+  open_after,
+  taken_white,
+  without_first,
+  written,
+  written_in,
+}
+use Rattle.jekyll_source.specs.meaning.Piece.{Piece, plain, value, tag, bytes_of}
 use Rattle.jekyll_source.specs.meaning.Pieces.{
-  Piece,
   Taken,
-  plain,
-  value,
-  tag,
-  bytes_of,
   first_piece,
   joined,
   jekyll_text,
@@ -61,7 +71,6 @@ use Rattle.jekyll_source.specs.meaning.Pieces.{
   value_or_plain,
   value_taken,
   whole_value,
-  written,
 }
 use Rattle.jekyll_source.specs.meaning.Rewriting.{begins_name, new_body, rewritten, takes_name}
 use Rattle.jekyll_source.specs.meaning.Splits.{Parts, after_opener, split_around, split_at}
@@ -69,11 +78,11 @@ use Rattle.jekyll_source.specs.meaning.Tags.{fitted, named, tag_of}
 use Rattle.jekyll_source.proofs.PieceLemmas.{first_shorter}
 use Rattle.jekyll_source.proofs.RewritingLemmas.{no_name}
 use Rattle.memchr.proofs.lemmas.MatchLemmas.{OccursAt-split}
-use Rattle.std.proofs.lemmas.List.Elements.{All-head, All-tail}
+use Rattle.std.proofs.lemmas.List.Elements.{All-cons, All-head, All-nil, All-tail}
 use Rattle.liquid_strings.proofs.PlaceLemmas.{first_match}
 
--- a piece without a name to rewrite is written as it is
-as_it_is : (p : Piece) → TakesNoName p → written p ≡ bytes_of p
+-- a piece without a name to rewrite is written as it is where no white space is left out
+as_it_is : (p : Piece) → TakesNoName p → written false [] p ≡ bytes_of p
 as_it_is (plain text) none = refl
 as_it_is (value inner) none = refl
 as_it_is (tag inner body) none =
@@ -82,11 +91,44 @@ as_it_is (tag inner body) none =
     let nothing : None ≡ new_body name said = no_name name said (ap (λ t. t && begins_name said) none) in
     ap (λ o. codes "{%" ++ (option_map_or (λ new. fitted (tag_of inner) new) o inner ++ (codes "%}" ++ body))) (sym nothing)
 
-written_as_is : (ps : List Piece) → All TakesNoName ps → flat_map written ps ≡ joined ps
-written_as_is [] none = refl
-written_as_is (p ∷ ps) none =
-    ap (λ l. l ++ flat_map written ps) (as_it_is p (All-head TakesNoName p ps none))
-    ∙ ap (λ l. bytes_of p ++ l) (written_as_is ps (All-tail TakesNoName p ps none))
+-- blocks of none of which the white space is left out
+abbrev Writing : List Bool → Type 0
+Writing blocks = All (λ b. b ≡ false) blocks
+
+innermost_writes : (blocks : List Bool) → Writing blocks → innermost blocks ≡ false
+innermost_writes [] all = refl
+innermost_writes (b ∷ bs) all = All-head (λ x. x ≡ false) b bs all
+
+fewer_write : (blocks : List Bool) → Writing blocks → Writing (without_first blocks)
+fewer_write [] all = all
+fewer_write (b ∷ bs) all = All-tail (λ x. x ≡ false) b bs all
+
+still_writing : (m : Marked) (blocks : List Bool) → LeavesNothingOut m → Writing blocks → Writing (open_after m blocks)
+still_writing m blocks none all = go (is_end (name_of m.0)) (is_start (name_of m.0))
+  where
+    go : (t u : Bool) → Writing (cond t (without_first blocks) (cond u (m.1 ∷ blocks) blocks))
+    go true u = fewer_write blocks all
+    go false true = All-cons (λ b. b ≡ false) m.1 blocks none all
+    go false false = all
+
+takes_nothing : (ms : List Marked) → taken_white false ms ≡ []
+takes_nothing [] = refl
+takes_nothing (m ∷ ms) = refl
+
+written_as_is : (blocks : List Bool) (ps : List Piece) → Writing blocks → All TakesNoName ps → All LeavesNothingOut (marked ps)
+    → written_in blocks (marked ps) ≡ joined ps
+written_as_is blocks [] writing none out = refl
+written_as_is blocks (p ∷ ps) writing none out =
+    let m = mark p (blank_ends ps) in
+    let after = still_writing m blocks (All-head LeavesNothingOut m (marked ps) out) writing in
+    let here = innermost_writes blocks writing in
+    let there = innermost_writes (open_after m blocks) after in
+    ap (λ b. written b (taken_white (innermost (open_after m blocks)) (marked ps)) p ++ written_in (open_after m blocks) (marked ps)) here
+    ∙ ap (λ b. written false (taken_white b (marked ps)) p ++ written_in (open_after m blocks) (marked ps)) there
+    ∙ ap (λ w. written false w p ++ written_in (open_after m blocks) (marked ps)) (takes_nothing (marked ps))
+    ∙ ap (λ l. l ++ written_in (open_after m blocks) (marked ps)) (as_it_is p (All-head TakesNoName p ps none))
+    ∙ ap (λ l. bytes_of p ++ l)
+    (written_as_is (open_after m blocks) ps after (All-tail TakesNoName p ps none) (All-tail LeavesNothingOut m (marked ps) out))
 
 -- an opener is what it is taken for
 opener_is : (kind : ℕ) (text rest : List ℕ) → after_opener kind text ≡ Some rest → text ≡ byte "{" ∷ kind ∷ rest
@@ -180,5 +222,5 @@ joined_in (suc n) (b ∷ bs) h =
 pub pieces_joined : (text : List ℕ) → joined (pieces text) ≡ text
 pieces_joined text = joined_in (length text) text (omega arith)
 
-pub untouched : (text : List ℕ) → All TakesNoName (pieces text) → jekyll_text text ≡ text
-untouched text none = written_as_is (pieces text) none ∙ pieces_joined text
+pub untouched : (text : List ℕ) → All TakesNoName (pieces text) → All LeavesNothingOut (marked (pieces text)) → jekyll_text text ≡ text
+untouched text none out = written_as_is [] (pieces text) (All-nil (λ b. b ≡ false)) none out ∙ pieces_joined text

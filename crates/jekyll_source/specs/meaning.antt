@@ -5,4 +5,6 @@ pub mod Names
 pub mod Parameters
 pub mod Bodies
 pub mod Rewriting
+pub mod Piece
+pub mod Blank
 pub mod Pieces

@@ -1,6 +1,7 @@
 //! Texts as Jekyll's authors write them, in this engine's grammar.
 #![tactic(auto)]
 
+mod blank;
 mod bodies;
 mod laws;
 mod literals;

@@ -1,5 +1,6 @@
 //! The names in tags.
-ghost use Rattle.std.specs.Prelude.{◌≡◌, ◌≢◌, ◌<◌, ◌≤◌, ◌&&◌, [], ◌++◌, length, slice_index, codes, false, nat_eq, not, option_map, string_bytes, if◌then◌else◌, IfOk};
+ghost use Rattle.std.specs.Prelude.{◌≡◌, ◌≢◌, ◌<◌, ◌≤◌, ◌&&◌, ◌++◌, if◌then◌else◌, [], false, not};
+ghost use Rattle.std.specs.Prelude.{codes, length, nat_eq, option_map, slice_index, string_bytes, IfOk};
 ghost use Rattle.std.specs.List.{starts_with};
 ghost use Rattle.std.specs.Str.{byte};
 ghost use Rattle.jekyll_source.specs.meaning.Names as Spec;

@@ -1,5 +1,6 @@
 //! Texts in the parameters of an inclusion, in which a backslash escapes the quote after it.
-ghost use Rattle.std.specs.Prelude.{◌≡◌, ◌==◌, ◌&&◌, [], ◌∷◌, ◌++◌, ◌<◌, ◌≤◌, false, length, not, slice_index, option_map, string_bytes, IfNone, IfOk, IfSome, MatchOption, OnOk};
+ghost use Rattle.std.specs.Prelude.{◌≡◌, ◌==◌, ◌<◌, ◌≤◌, ◌&&◌, ◌∷◌, ◌++◌, [], false, length, not};
+ghost use Rattle.std.specs.Prelude.{option_map, slice_index, string_bytes, IfNone, IfOk, IfSome, MatchOption, OnOk};
 ghost use Rattle.std.specs.List.{prefix_len};
 ghost use Rattle.jekyll_source.specs.meaning.Parameters as Spec;
 ghost use Rattle.jekyll_source.specs.meaning.Splits.{is_quote};

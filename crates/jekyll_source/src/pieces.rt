@@ -1,12 +1,14 @@
 //! The pieces of a text.
-ghost use Rattle.std.specs.Prelude.{◌≡◌, ◌≢◌, ◌<◌, ◌≤◌, [], ◌++◌, length, string_bytes, OnOk};
+ghost use Rattle.std.specs.Prelude.{◌≡◌, ◌≢◌, ◌<◌, ◌≤◌, [], ◌++◌, length, map, string_bytes, IfOk, OnOk};
+ghost use Rattle.jekyll_source.specs.meaning.Blank.{widened, written};
 ghost use Rattle.jekyll_source.specs.meaning.Pieces as Spec;
 ghost use Rattle.jekyll_source.specs.meaning.Splits.{split_at};
 ghost use Rattle.jekyll_source.specs.steps.Parts.{piece_view};
 
+use crate::blank::is_white_text;
 use crate::bodies::split_body;
 use crate::rewriting::push_rewritten;
-use crate::splits::{after_opener, split_around};
+use crate::splits::{after_opener, split_around, split_end_dash};
 use crate::tags::split_name;
 use memchr::memchr;
 use std::alloc::{AllocError, Global};
@@ -95,16 +97,37 @@ fn plain_len(text: &[u8]) -> usize
     }
 }
 
-/// Appends what is written for a piece.
+/// Returns the pieces of a text.
+pub(crate) fn split_pieces(alloc: Global, text: &str) -> Result<Vec<Piece<'_>>, AllocError>
+    ensures { IfOk result (λ ps. map piece_view ps.items ≡ Spec.pieces text.now) }
+{
+    let mut pieces = Vec::new(alloc);
+    let mut rest = text;
+    while !rest.is_empty() {
+        let (piece, after) = first_piece(rest);
+        pieces.push(piece)?;
+        rest = after;
+    }
+    Ok(pieces)
+}
+
+/// Appends what is written for a piece, after which comes white space that it takes. White space isn't written where it is
+/// left out.
 pub(crate) fn push_piece(
     alloc: Global,
     out: &mut String,
     piece: Piece<'_>,
+    is_left_out: bool,
+    white: &str,
 ) -> Result<(), AllocError>
-    ensures { OnOk result (string_bytes out.new ≡ string_bytes out.old ++ Spec.written (piece_view piece.entry)) }
+    ensures { OnOk result (string_bytes out.new ≡ string_bytes out.old ++ written is_left_out white.now (piece_view piece.entry)) }
 {
     match piece {
-        Piece::Plain(text) => out.push_str(text)?,
+        Piece::Plain(text) => {
+            if !(is_left_out && is_white_text(text)) {
+                out.push_str(text)?;
+            }
+        }
         Piece::Value(inner) => {
             out.push_str("{{")?;
             out.push_str(inner)?;
@@ -112,10 +135,24 @@ pub(crate) fn push_piece(
         }
         Piece::Tag(inner, body) => {
             out.push_str("{%")?;
-            push_rewritten(alloc, out, inner)?;
+            push_widened(alloc, out, white, inner)?;
             out.push_str("%}")?;
             out.push_str(body)?;
         }
     }
+    Ok(())
+}
+
+/// Appends a tag, given what is between `{%` and `%}`, with white space at its end.
+fn push_widened(alloc: Global, out: &mut String, white: &str, inner: &str) -> Result<(), AllocError>
+    ensures { OnOk result (string_bytes out.new ≡ string_bytes out.old ++ widened white.now inner.now) }
+{
+    if white.is_empty() {
+        return push_rewritten(alloc, out, inner);
+    }
+    let (before_dash, dash) = split_end_dash(inner);
+    out.push_str(before_dash)?;
+    out.push_str(white)?;
+    out.push_str(dash)?;
     Ok(())
 }

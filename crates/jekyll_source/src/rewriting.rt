@@ -70,7 +70,7 @@ fn is_inclusion(tag: &str) -> bool
     tag == "include" || tag == "include_relative" || tag == "include_cached"
 }
 
-/// Returns `true` if the tag begins with a name that is no text literal and no list of parts.
+/// Returns `true` if the tag begins with a name that is neither a text literal nor a list of parts.
 fn has_name(tag: &str, body: &str) -> bool
     ensures { result ≡ Spec.has_name tag.now body.now }
 {
@@ -84,7 +84,7 @@ fn takes_name(tag: &str) -> bool
     is_inclusion(tag) || tag == "link" || tag == "post_url" || tag == "highlight"
 }
 
-/// Returns `true` if a name is there that is no text literal and no list of parts.
+/// Returns `true` if a name is there that is neither a text literal nor a list of parts.
 fn begins_name(body: &str) -> bool
     ensures { result ≡ Spec.begins_name body.now }
 {

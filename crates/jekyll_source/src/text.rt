@@ -1,8 +1,11 @@
 //! Texts as Jekyll's authors write them.
-ghost use Rattle.std.specs.Prelude.{◌≡◌, string_bytes, IfOk};
+ghost use Rattle.std.specs.Prelude.{◌≡◌, [], map, reverse, string_bytes, IfOk};
+ghost use Rattle.jekyll_source.specs.meaning.Blank.{written_in};
 ghost use Rattle.jekyll_source.specs.meaning.Pieces as Spec;
+ghost use Rattle.jekyll_source.specs.steps.Parts.{marked_view};
 
-use crate::pieces::{first_piece, push_piece};
+use crate::blank::{go_after, innermost, mark_blank, taken_white};
+use crate::pieces::{Piece, push_piece, split_pieces};
 use std::alloc::{AllocError, Global};
 
 /// Returns the text with its tags in this engine's grammar.
@@ -15,16 +18,34 @@ use std::alloc::{AllocError, Global};
 /// can hold. The bodies of `raw` and `comment` stay too.
 ///
 /// A tag that becomes longer takes the blanks before its `%}` and after its `{%`, and one that becomes shorter gets spaces.
-/// So each line stays where it is. An `Err` means out of memory.
+/// So each line stays where it is.
+///
+/// An `if`, `unless`, `for` or `case` that writes nothing doesn't write its white space either: in each, the white space
+/// that follows a tag moves to before the `%}` of that tag. An `Err` means out of memory.
 pub fn jekyll_text(alloc: Global, text: &str) -> Result<String, AllocError>
     ensures { IfOk result (λ t. string_bytes t ≡ Spec.jekyll_text text.now) }
 {
-    let mut out = String::with_capacity(alloc, text.len())?;
-    let mut rest = text;
-    while !rest.is_empty() {
-        let (piece, after) = first_piece(rest);
-        push_piece(alloc, &mut out, piece)?;
-        rest = after;
+    let pieces = split_pieces(alloc, text)?;
+    let marked = mark_blank(alloc, pieces)?;
+    write_marked(alloc, text.len(), marked)
+}
+
+/// Returns what is written for pieces, of which the last one is first, with that much room.
+fn write_marked(
+    alloc: Global,
+    room: usize,
+    marked: Vec<(Piece<'_>, bool)>,
+) -> Result<String, AllocError>
+    ensures { IfOk result (λ t. string_bytes t ≡ written_in [] (map marked_view (reverse marked.entry.items))) }
+{
+    let mut marked = marked;
+    let mut blocks = Vec::new(alloc);
+    let mut out = String::with_capacity(alloc, room)?;
+    while let Some((piece, begins_blank)) = marked.pop() {
+        let is_left_out = innermost(&blocks);
+        go_after(&mut blocks, piece, begins_blank)?;
+        let white = taken_white(innermost(&blocks), marked.as_slice());
+        push_piece(alloc, &mut out, piece, is_left_out, white)?;
     }
     Ok(out)
 }

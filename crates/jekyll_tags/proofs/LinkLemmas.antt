@@ -3,7 +3,7 @@ use Rattle.std.proofs.Common.{◌≡◌, ℕ, Bool, List, codes, Option, ap, ◌
 use Rattle.liquid_value.specs.meaning.Tree.{Tree}
 use Rattle.jekyll_tags.specs.declared.links.JekyllLinks.TheVariants.{PostUrl}
 use Rattle.jekyll_tags.specs.meaning.Files.{is_post, post_url}
-use Rattle.jekyll_urls.specs.meaning.Sites.{absolute_url}
+use Rattle.liquid_jekyll.specs.meaning.url.Sites.{absolute_url}
 use Rattle.jekyll_tags.specs.meaning.Links.{feed_path, feed_url, site_turn, written}
 use Rattle.jekyll_tags.specs.meaning.Seen.{member, member_text}
 

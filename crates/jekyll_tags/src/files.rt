@@ -1,6 +1,6 @@
 //! The files of a site, as tags find them.
 ghost use Rattle.std.specs.Prelude.{◌≡◌, codes, option_map, map, string_bytes, IfOk};
-ghost use Rattle.jekyll_urls.specs.meaning.Cuts.{cut_last};
+ghost use Rattle.liquid_jekyll.specs.meaning.url.Cuts.{cut_last};
 ghost use Rattle.std.specs.List.{list_all};
 ghost use Rattle.liquid_value.specs.meaning.View.{items_view, view as tree_of};
 ghost use Rattle.jekyll_tags.specs.meaning.Files as Spec;

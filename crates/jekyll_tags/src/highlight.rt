@@ -12,10 +12,10 @@ ghost use Rattle.jekyll_tags.specs.meaning.Highlights as Spec;
 ghost use Rattle.jekyll_tags.specs.meaning.HighlightsGiven as Given;
 
 use crate::seen::text_seen;
-use jekyll_texts::strip_spaces;
 use liquid_core::model::ValueRender;
 use liquid_core::parser::{Bytes, Meant, TagToken};
 use liquid_core::{Discreet, Error, Frame, Renderable, Runtime, TagTokenIter, Turn, Value};
+use liquid_jekyll::text::strip_spaces;
 use liquid_runtime::Fresh;
 use liquid_strings::{escape, replace, to_lowercase};
 use liquid_tags::asked::TOKEN_EXPECTED;

@@ -93,7 +93,7 @@ fn inclusion_turn<X: Filter, R: Runtime>(
 ) -> Result<Turn, Error>
     ensures { Gives turn_of result (Spec.inclusion_turn X.means (inclusion_of X.shape inclusion.now) (R.view runtime.now)) }
 {
-    let name = joined_texts(alloc, inclusion.name.as_slice(), runtime)?;
+    let name = join_texts(alloc, inclusion.name.as_slice(), runtime)?;
     let members = evaluate_members(alloc, inclusion.pairs.as_slice(), runtime)?;
     Ok(partial_for(
         alloc,
@@ -105,7 +105,7 @@ fn inclusion_turn<X: Filter, R: Runtime>(
 }
 
 /// Returns the texts of chains, joined. They are evaluated from left to right.
-pub(crate) fn joined_texts<X: Filter, R: Runtime>(
+pub(crate) fn join_texts<X: Filter, R: Runtime>(
     alloc: Global,
     chains: &[FilterChain<X>],
     runtime: &R,
@@ -168,13 +168,13 @@ fn partial_for(
 ) -> Result<Turn, AllocError>
     ensures { IfOk result (λ turn. turn_of turn ≡ Spec.partial_for tag name.now pairs (members_view members.entries)) }
 {
-    let name = joined(alloc, prefix(tag), name)?;
-    let trace = joined(alloc, word(tag), name.as_str())?;
+    let name = join(alloc, prefix(tag), name)?;
+    let trace = join(alloc, word(tag), name.as_str())?;
     let frame = frame_for(alloc, pairs, members)?;
     Ok(Turn::Partial(name, frame, Some(trace)))
 }
 
-fn joined(alloc: Global, front: &str, back: &str) -> Result<String, AllocError>
+fn join(alloc: Global, front: &str, back: &str) -> Result<String, AllocError>
     ensures { IfOk result (λ s. string_bytes s ≡ front.now ++ back.now) }
 {
     let mut text = String::with_capacity(alloc, front.len().saturating_add(back.len()))?;

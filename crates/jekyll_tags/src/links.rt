@@ -11,16 +11,16 @@ ghost use Rattle.jekyll_tags.specs.meaning.Files.{fits};
 ghost use Rattle.jekyll_tags.specs.meaning.Seen.{member};
 
 use crate::files::{Wanted, file_url, file_wanted, post_url, post_wanted};
-use crate::inclusion::joined_texts;
+use crate::inclusion::join_texts;
 use crate::reading::read_parts;
 use crate::seen::{given_text, member, member_text, value_seen};
-use jekyll_texts::xml_escape;
-use jekyll_urls::{absolute_url, relative_url};
 use liquid_core::parser::{ChainMark, FilterChain, ListOf, Meant, PluginRegistry};
 use liquid_core::{
     Discreet, Error, Filter, ParseFilter, ParseTag, Renderable, Runtime, TagReflection,
     TagTokenIter, Turn, Value,
 };
+use liquid_jekyll::text::xml_escape;
+use liquid_jekyll::url::{absolute_url, relative_url};
 use liquid_runtime::Fresh;
 use liquid_tags::asked::alone;
 use std::alloc::{AllocError, Global};
@@ -143,7 +143,7 @@ fn link_turn<X: Filter, R: Runtime>(
 ) -> Result<Turn, Error>
     ensures { Gives turn_of result (Spec.link_turn X.means (link_of X.shape link.now) (R.view runtime.now)) }
 {
-    let name = joined_texts(alloc, link.name.as_slice(), runtime)?;
+    let name = join_texts(alloc, link.name.as_slice(), runtime)?;
     match value_seen(alloc, "site", runtime)? {
         Some(site) => site_turn(alloc, link.tag, name.as_str(), site.as_view()),
         None => site_turn(alloc, link.tag, name.as_str(), &Value::Nil),
@@ -158,17 +158,17 @@ fn site_turn(alloc: Global, tag: JekyllLinks, name: &str, site: &Value) -> Resul
         JekyllLinks::FeedMeta => Ok(Turn::Text(feed_element(alloc, site)?)),
         JekyllLinks::Link => {
             let wanted = file_wanted(alloc, name)?;
-            written(alloc, "No such file", name, link_url(site, &wanted), site)
+            url_turn(alloc, "No such file", name, link_url(site, &wanted), site)
         }
         JekyllLinks::PostUrl => {
             let wanted = post_wanted(alloc, name)?;
-            written(alloc, "No such post", name, post_url(site, &wanted), site)
+            url_turn(alloc, "No such post", name, post_url(site, &wanted), site)
         }
     }
 }
 
 /// Returns the turn that writes a URL of the site. Without one there is an error with this message and the name.
-fn written(
+fn url_turn(
     alloc: Global,
     message: &str,
     name: &str,

@@ -6,7 +6,7 @@ ghost use Rattle.liquid_parser.specs.meaning.Handed.{Token, Tokens};
 ghost use Rattle.liquid_parser.specs.meaning.Plugins.{AreTokens, registry_of};
 ghost use Rattle.liquid_plugins.specs.meaning.ExpressionOf.{chain_of};
 ghost use Rattle.liquid_tags.specs.meaning.Partials.{pair_of};
-ghost use Rattle.liquid_includes.specs.meaning.CallsGiven.{pairs_of};
+ghost use Rattle.liquid_std.specs.meaning.inclusion.CallsGiven.{pairs_of};
 ghost use Rattle.jekyll_tags.specs.meaning.Given as Spec;
 
 use crate::plugin::JekyllTags;

@@ -1,6 +1,7 @@
 //! The command `liquid`, which renders template files.
 #![tactic(auto)]
 
+mod jekyll;
 mod page;
 mod watch;
 
@@ -18,7 +19,8 @@ use std::{env, io};
 const COMMANDS: &str =
     "usage: liquid page TEMPLATE.. [--data FILE].. [--partials FOLDER] [-o PATH] [OPTION..]
        liquid check TEMPLATE.. [--data FILE].. [--partials FOLDER]
-'liquid page --help' and 'liquid check --help' say more.
+       liquid render --jekyll [OPTION..] TEMPLATE GLOBALS.json [DIR]
+'liquid page --help', 'liquid check --help' and 'liquid render --jekyll --help' say more.
 
 The command of the first releases, with a language of its own:
 
@@ -61,6 +63,9 @@ fn serve(rt: &HostRuntime) -> Result<u8, Fault<'static>> {
         match first.as_str() {
             "page" => return Ok(page::serve(rt, Task::Page, rest)),
             "check" => return Ok(page::serve(rt, Task::Check, rest)),
+            "render" => if jekyll::is_asked(rest) {
+                return Ok(jekyll::serve(rt, rest));
+            },
             _ => {}
         }
     }

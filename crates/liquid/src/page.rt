@@ -2,18 +2,22 @@
 
 use crate::watch::watch;
 use filter_dates::moment_of;
+use jekyll_language::{SiteBlocks, SiteFilters, SiteTags, site_language};
 use liquid_core::partials::InMemorySource;
-use liquid_core::{Error, Value};
-use liquid_cycle::Marks;
+use liquid_core::{Discreet, Error, Language, ParseBlock, ParseFilter, ParseTag, Value};
 use liquid_dates::DateTime;
 use liquid_files::Machine;
 use liquid_filters::{FilterPlugin, StdKind, filters};
-use liquid_page::{Explain, NoRequest, Outcome, Request, Task, check_pages, read_words, run_page};
+use liquid_page::{
+    AsItIs, Explain, FromJekyll, NoRequest, Outcome, Request, Rewrite, Task, check_pages,
+    read_words, run_page,
+};
 use liquid_pages::{PageFrame, PageLimit, PageOptions};
 use liquid_program::command::Options;
 use liquid_program::explain::{Explained, explain_page};
 use liquid_program::rendering::StandardLanguage;
 use liquid_scalar::Scalar;
+use liquid_std::marks::Marks;
 use liquid_std::{StdBlocks, StdTags};
 use page_site::{Partials, Source};
 use std::alloc::{AllocError, Global};
@@ -34,7 +38,7 @@ impl StandardNotes {
             options: Options {
                 standard: true,
                 sandboxed: options.frame != PageFrame::Open,
-                lenient: options.lenient,
+                lenient: options.leniency.is_lenient(),
                 decimals: true,
                 explain: true,
                 max_turns: options.max_turns,
@@ -116,8 +120,10 @@ fn moment_in(alloc: Global, word: Option<&str>) -> Result<Option<DateTime>, Refu
 }
 
 /// Returns standard Liquid, whose `date` reads `now` and `today` as the moment.
-fn language_at(alloc: Global, moment: Option<&str>) -> Result<Rc<StandardLanguage>, Refusal> {
-    let moment = moment_in(alloc, moment)?;
+fn standard_language(
+    alloc: Global,
+    moment: Option<DateTime>,
+) -> Result<Rc<StandardLanguage>, AllocError> {
     let language = liquid_std::language(alloc, filters(alloc, moment)?)?;
     Ok(Rc::new(alloc, language)?)
 }
@@ -125,8 +131,8 @@ fn language_at(alloc: Global, moment: Option<&str>) -> Result<Rc<StandardLanguag
 /// Runs the words after `page` or `check`, and returns the exit status.
 pub(crate) fn serve(rt: &HostRuntime, task: Task, words: &[String]) -> u8 {
     match read_words(rt.alloc(), task, words) {
-        Ok(request) => match language_at(rt.alloc(), request.moment) {
-            Ok(language) => perform(rt, task, &request, language),
+        Ok(request) => match serve_request(rt, task, &request) {
+            Ok(status) => status,
             Err(Refusal::NoMoment) => {
                 let word = request.moment.unwrap_or("");
                 let _ = rt.eprint(format_args!("liquid: --now {word}: not a date\n"));
@@ -146,39 +152,60 @@ pub(crate) fn serve(rt: &HostRuntime, task: Task, words: &[String]) -> u8 {
     }
 }
 
-/// Does what a request asks for.
-fn perform(
+/// Does what a request asks for, in standard Liquid or in Jekyll's language.
+fn serve_request(rt: &HostRuntime, task: Task, request: &Request<'_>) -> Result<u8, Refusal> {
+    let moment = moment_in(rt.alloc(), request.moment)?;
+    if request.is_jekyll {
+        let language = Rc::new(rt.alloc(), site_language(rt.alloc(), moment)?)?;
+        Ok(perform::<FromJekyll, SiteFilters, SiteTags, SiteBlocks>(rt, task, request, language))
+    } else {
+        let language = standard_language(rt.alloc(), moment)?;
+        Ok(perform::<AsItIs, FilterPlugin<StdKind>, StdTags, StdBlocks>(
+            rt, task, request, language,
+        ))
+    }
+}
+
+/// Does what a request asks for in a language, with each text read as `R` says.
+fn perform<R, F, T, B>(
     rt: &HostRuntime,
     task: Task,
     request: &Request<'_>,
-    language: Rc<StandardLanguage>,
-) -> u8 {
+    language: Rc<Language<F, T, B>>,
+) -> u8
+where
+    R: Rewrite,
+    F: ParseFilter + Drop,
+    T: ParseTag<F> + Drop,
+    B: ParseBlock<F> + Drop,
+    T::Node: Discreet<Marks>,
+    B::Node: Discreet<Marks>,
+{
     match task {
-        Task::Check => check(rt, request, &language),
+        Task::Check => check::<R, F, T, B>(rt, request, &language),
         Task::Page => if request.is_watched {
-            watch(rt, request, &language)
+            watch::<R, F, T, B>(rt, request, &language)
         } else {
-            make_pages(rt, request, language)
+            make_pages::<R, F, T, B>(rt, request, language)
         },
     }
 }
 
 /// Checks the templates of a request.
-fn check(rt: &HostRuntime, request: &Request<'_>, language: &StandardLanguage) -> u8 {
+fn check<R, F, T, B>(rt: &HostRuntime, request: &Request<'_>, language: &Language<F, T, B>) -> u8
+where
+    R: Rewrite,
+    F: ParseFilter + Drop,
+    T: ParseTag<F> + Drop,
+    B: ParseBlock<F> + Drop,
+{
     let errors = rt.stderr();
     let mut err = io::writer(&errors);
     let mut files = Machine {
         rt,
         is_watched: false,
     };
-    check_pages::<
-        FilterPlugin<StdKind>,
-        StdTags,
-        StdBlocks,
-        StandardNotes,
-        Machine<'_, HostRuntime>,
-        _,
-    >(
+    check_pages::<R, F, T, B, StandardNotes, Machine<'_, HostRuntime>, _>(
         rt.alloc(),
         language,
         &StandardNotes::new(request.options),
@@ -194,13 +221,21 @@ pub(crate) fn out_of_memory(rt: &HostRuntime) -> u8 {
 }
 
 /// Makes the pages of a request, and says how many files were written.
-pub(crate) fn make_pages(
+pub(crate) fn make_pages<R, F, T, B>(
     rt: &HostRuntime,
     request: &Request<'_>,
-    language: Rc<StandardLanguage>,
-) -> u8 {
+    language: Rc<Language<F, T, B>>,
+) -> u8
+where
+    R: Rewrite,
+    F: ParseFilter + Drop,
+    T: ParseTag<F> + Drop,
+    B: ParseBlock<F> + Drop,
+    T::Node: Discreet<Marks>,
+    B::Node: Discreet<Marks>,
+{
     let started = Instant::now(rt);
-    let outcome = write_pages(rt, request, language);
+    let outcome = write_pages::<R, F, T, B>(rt, request, language);
     if request.output.is_some() && outcome.tally.count > 0 {
         let seconds = match started {
             Ok(started) => started.elapsed(rt).map_or(0.0, |taken| taken.as_secs_f64()),
@@ -212,23 +247,26 @@ pub(crate) fn make_pages(
 }
 
 /// Makes the pages over the machine's files.
-fn write_pages(rt: &HostRuntime, request: &Request<'_>, language: Rc<StandardLanguage>) -> Outcome {
+fn write_pages<R, F, T, B>(
+    rt: &HostRuntime,
+    request: &Request<'_>,
+    language: Rc<Language<F, T, B>>,
+) -> Outcome
+where
+    R: Rewrite,
+    F: ParseFilter + Drop,
+    T: ParseTag<F> + Drop,
+    B: ParseBlock<F> + Drop,
+    T::Node: Discreet<Marks>,
+    B::Node: Discreet<Marks>,
+{
     let output = rt.stdout();
     let mut out = io::writer(&output);
     let errors = rt.stderr();
     let mut err = io::writer(&errors);
     let is_watched = errors.is_terminal() && request.output.is_some();
     let mut files = Machine { rt, is_watched };
-    run_page::<
-        Marks,
-        FilterPlugin<StdKind>,
-        StdTags,
-        StdBlocks,
-        StandardNotes,
-        Machine<'_, HostRuntime>,
-        _,
-        _,
-    >(
+    run_page::<Marks, R, F, T, B, StandardNotes, Machine<'_, HostRuntime>, _, _>(
         rt.alloc(),
         language,
         StandardNotes::new(request.options),

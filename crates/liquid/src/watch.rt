@@ -1,10 +1,11 @@
 //! Pages that are made again when a file changes.
 
 use crate::page::{make_pages, out_of_memory};
+use liquid_core::{Discreet, Language, ParseBlock, ParseFilter, ParseTag};
 use liquid_files::{Folder, Machine, Unread};
-use liquid_page::Request;
 use liquid_page::names::{data_path, path_named};
-use liquid_program::rendering::StandardLanguage;
+use liquid_page::{Request, Rewrite};
+use liquid_std::marks::Marks;
 use std::alloc::{AllocError, AllocFailed};
 use std::collections::BTreeMap;
 use std::io::Input;
@@ -24,15 +25,23 @@ type Stamps = BTreeMap<String, Stamp>;
 
 /// Makes the pages of a request, and again after each line of standard input before which a file was changed, added or
 /// removed. Returns the status of the last pages when the input ends.
-pub(crate) fn watch(
+pub(crate) fn watch<R, F, T, B>(
     rt: &HostRuntime,
     request: &Request<'_>,
-    language: &Rc<StandardLanguage>,
-) -> u8 {
+    language: &Rc<Language<F, T, B>>,
+) -> u8
+where
+    R: Rewrite,
+    F: ParseFilter + Drop,
+    T: ParseTag<F> + Drop,
+    B: ParseBlock<F> + Drop,
+    T::Node: Discreet<Marks>,
+    B::Node: Discreet<Marks>,
+{
     let Ok(mut seen) = stamps_of(rt, request) else {
         return out_of_memory(rt);
     };
-    let mut status = remake(rt, request, language);
+    let mut status = remake::<R, F, T, B>(rt, request, language);
     for line in rt.lines(rt.alloc()) {
         if line.is_err() {
             break;
@@ -41,7 +50,7 @@ pub(crate) fn watch(
             return out_of_memory(rt);
         };
         if say_changes(rt, &seen, &stamps) {
-            status = remake(rt, request, language);
+            status = remake::<R, F, T, B>(rt, request, language);
         }
         seen = stamps;
     }
@@ -49,9 +58,21 @@ pub(crate) fn watch(
 }
 
 /// Makes the pages of a request.
-fn remake(rt: &HostRuntime, request: &Request<'_>, language: &Rc<StandardLanguage>) -> u8 {
+fn remake<R, F, T, B>(
+    rt: &HostRuntime,
+    request: &Request<'_>,
+    language: &Rc<Language<F, T, B>>,
+) -> u8
+where
+    R: Rewrite,
+    F: ParseFilter + Drop,
+    T: ParseTag<F> + Drop,
+    B: ParseBlock<F> + Drop,
+    T::Node: Discreet<Marks>,
+    B::Node: Discreet<Marks>,
+{
     match language.clone() {
-        Ok(language) => make_pages(rt, request, language),
+        Ok(language) => make_pages::<R, F, T, B>(rt, request, language),
         Err(_) => out_of_memory(rt),
     }
 }

@@ -1,12 +1,14 @@
 //! The standard tags and blocks and a host's own, in one language.
 ghost use Rattle.std.specs.Prelude.{◌≡◌, IfOk, OnOk, map};
-ghost use Rattle.beside.specs.declared.one_of.Beside.TheVariants.{Library, Own};
+ghost use Rattle.liquid_extend.specs.declared.beside.one_of.Beside.TheVariants.{Library, Own};
 ghost use Rattle.liquid_tags.specs.meaning.Languages.{under_names};
 ghost use Rattle.liquid_beside.specs.meaning.Languages.{blocks_beside, own_start, own_tag, tags_beside};
 
-use beside::Beside;
 use liquid_core::parser::{BlockReflection, PluginRegistry, TagReflection};
 use liquid_core::{Language, ParseFilter};
+use liquid_extend::Beside;
+use liquid_std::conditions::Equality;
+use liquid_std::iteration::OverScalar;
 use liquid_std::{StdBlocks, StdTags};
 use liquid_tags::Tags;
 use std::alloc::{AllocError, Global};
@@ -26,10 +28,10 @@ const STANDARD_TAGS: [StdTags; 9] = [
 
 /// The standard blocks.
 const STANDARD_BLOCKS: [StdBlocks; 9] = [
-    StdBlocks::If,
-    StdBlocks::Unless,
-    StdBlocks::Case,
-    StdBlocks::For,
+    StdBlocks::If(Equality::Loose),
+    StdBlocks::Unless(Equality::Loose),
+    StdBlocks::Case(Equality::Loose),
+    StdBlocks::For(OverScalar::Refused),
     StdBlocks::Tablerow,
     StdBlocks::Capture,
     StdBlocks::Ifchanged,

@@ -8,7 +8,7 @@ use Rattle.liquid_c.specs.declared.moments.MomentFault.{MomentFault}
 use Rattle.liquid_c.specs.declared.moments.MomentFault.TheVariants.{NoMoment}
 use Rattle.liquid_c.specs.declared.page.Page.{Page}
 use Rattle.liquid_c.specs.meaning.Moments.{HasMoment, LacksMoment}
-use Rattle.liquid_c.specs.meaning.Options.{has_standard}
+use Rattle.liquid_c.specs.meaning.Options.{dialect_of}
 use Rattle.liquid_c.specs.steps.Chosen.{IsChosen, IsChosenAt, IsGiven}
 
 pub made : {A E : Type 0} (P : A → Type 0) (r : Result A E) (x : A) → r ≡ Ok x → IfOk r P → P x
@@ -23,10 +23,11 @@ pub given_none : (asked : Page) (r : Result (Option DateTime) MomentFault) (faul
 given_none asked r fault is none gives = subst (λ f. IsGiven asked (Err f)) none (given asked r (Err fault) is gives)
 
 -- the language with the moment of the page
-pub with_moment : (asked : Page) (now : Option DateTime) (it : Chosen) → asked.options < 32 → HasMoment asked now
-    → IsChosenAt now (has_standard asked.options) it → IsChosen asked it
+pub with_moment : (asked : Page) (now : Option DateTime) (it : Chosen) → asked.options < 64 → HasMoment asked now
+    → IsChosenAt now (dialect_of asked.options) it → IsChosen asked it
 with_moment asked now chosen.NoOptions within has is = absurd is
 with_moment asked now chosen.NoMoment within has is = absurd is
 with_moment asked now chosen.NoMemory within has is = within
 with_moment asked now (chosen.Plain l) within has is = (within, (now, has, is))
 with_moment asked now (chosen.Standard l) within has is = (within, (now, has, is))
+with_moment asked now (chosen.Jekyll l) within has is = (within, (now, has, is))

@@ -1,5 +1,6 @@
 pub mod AskedLemmas
 pub mod ChosenLemmas
+pub mod JekyllLemmas
 pub mod LeavesLemmas
 pub mod MomentLemmas
 pub mod TurnLemmas

@@ -1,3 +1,4 @@
+pub mod Jekyll
 pub mod Languages
 pub mod Moments
 pub mod Options

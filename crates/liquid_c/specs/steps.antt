@@ -1,2 +1,3 @@
+pub mod Jekyll
 pub mod Chosen
 pub mod Prepared

@@ -1,21 +1,28 @@
 //! Many pages of one template, rendered one after another into the caller's memory.
 ghost use Rattle.std.specs.Prelude.{◌≡◌, ◌≤◌, ◌+◌, ℕ, List, length, min, take, drop};
 ghost use Rattle.liquid_parser.specs.meaning.Plugins.{language_of};
+ghost use Rattle.liquid_std.specs.meaning.marks.Held.{marks_alone};
+ghost use Rattle.liquid_std.specs.meaning.marks.Marks.{no_marks};
+ghost use Rattle.jekyll_language.specs.meaning.Languages.{meaning_of as jekyll_meaning};
+ghost use Rattle.jekyll_language.specs.meaning.Rendered.{jekyll};
+ghost use Rattle.jekyll_language.specs.meaning.Site as site;
 ghost use Rattle.liquid_template.specs.meaning.Runs.{setting};
 ghost use Rattle.liquid_pages.specs.meaning.Shown.{Page as Shown, IsShown};
 ghost use Rattle.liquid_c.specs.meaning.Outcomes.{Leaves, LeavesOver};
 ghost use Rattle.liquid_c.specs.meaning.Turns.{TurnsOver, one_if_whole};
 ghost use Rattle.liquid_c.specs.steps.Chosen.{IsRefused};
-ghost use Rattle.liquid_c.specs.steps.Prepared.{AskedComesTo, LeavesOf};
+ghost use Rattle.liquid_c.specs.steps.Prepared.{AskedComesTo, JekyllComesTo, LeavesOf};
 
+use crate::jekyll::{lend_partials, read_texts};
 use crate::languages::{Chosen, choose_language, page_options};
 use crate::page::{Outcome, Page};
-use crate::rendering::{NO_MEMORY, NO_OPTIONS, finish, refuse_moment, refused};
+use crate::rendering::{NO_MEMORY, NO_OPTIONS, finish, refusal, refuse_moment};
 use crate::repeated::RenderOver;
+use jekyll_language::{SiteBlocks, SiteFilters, SiteLanguage, SiteTags};
 use liquid_core::Fresh;
 use liquid_core::parser::{Discreet, Language, ParseBlock, ParseFilter, ParseTag};
-use liquid_cycle::Marks;
 use liquid_pages::{PageOptions, Rendered, prepare_page};
+use liquid_std::marks::Marks;
 use std::alloc::Global;
 use std::rc::Rc;
 
@@ -34,16 +41,49 @@ pub fn render_each(
     ensures { TurnsOver (LeavesOver page.now) globals.now out.old out.new outcomes.old outcomes.new result }
 {
     match choose_language(alloc, page) {
-        Chosen::NoOptions => refuse_each(refused(NO_OPTIONS), globals, outcomes),
+        Chosen::NoOptions => refuse_each(refusal(NO_OPTIONS), globals, outcomes),
         Chosen::NoMoment => refuse_each(refuse_moment(message), globals, outcomes),
-        Chosen::NoMemory => refuse_each(refused(NO_MEMORY), globals, outcomes),
+        Chosen::NoMemory => refuse_each(refusal(NO_MEMORY), globals, outcomes),
         Chosen::Plain(language) => render_each_in::<(), _, _, _>(
             alloc, &language, page, globals, out, message, outcomes,
         ),
         Chosen::Standard(language) => render_each_in::<Marks, _, _, _>(
             alloc, &language, page, globals, out, message, outcomes,
         ),
+        Chosen::Jekyll(language) => render_each_jekyll(
+            alloc, &language, page, globals, out, message, outcomes,
+        ),
     }
+}
+
+/// Renders a page whose texts are as Jekyll's authors write them, over each of these globals.
+fn render_each_jekyll(
+    alloc: Global,
+    language: &Rc<SiteLanguage>,
+    page: &Page<'_>,
+    globals: &[&[u8]],
+    out: &mut [u8],
+    message: &mut [u8],
+    outcomes: &mut [Outcome],
+) -> usize
+    ensures { TurnsOver (LeavesOf (JekyllComesTo (jekyll marks_alone no_marks site.filter_calls)
+        (jekyll_meaning site.filter_made language.now.value) page.now))
+        globals.now out.old out.new outcomes.old outcomes.new result }
+{
+    let Ok(texts) = read_texts(alloc, page) else {
+        return refuse_each(refusal(NO_MEMORY), globals, outcomes);
+    };
+    let Ok(partials) = lend_partials(alloc, texts.partials.as_slice()) else {
+        return refuse_each(refusal(NO_MEMORY), globals, outcomes);
+    };
+    let read = Page {
+        text: texts.text.as_slice(),
+        partials: partials.as_slice(),
+        ..*page
+    };
+    render_each_in::<Marks, SiteFilters, SiteTags, SiteBlocks>(
+        alloc, language, &read, globals, out, message, outcomes,
+    )
 }
 
 /// Renders a page in this language over each of these globals, with a register of type `V`.

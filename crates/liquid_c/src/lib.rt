@@ -2,6 +2,7 @@
 #![tactic(auto)]
 
 pub mod each;
+mod jekyll;
 pub mod languages;
 mod moments;
 pub mod page;

@@ -18,7 +18,7 @@ pub struct Page<'a> {
     /// A text of JSON, which is an object.
     pub globals: &'a [u8],
     pub partials: &'a [PartialBytes<'a>],
-    /// The sum of `SANDBOXED`, `LENIENT`, `STANDARD`, `DECIMALS` and `NOW`, each at most once.
+    /// The sum of `SANDBOXED`, `LENIENT`, `STANDARD`, `DECIMALS`, `NOW` and `JEKYLL`, each at most once.
     pub options: u32,
     /// How many turns of tags and blocks the page may take, and how many bytes it may write; 0 if that is not limited.
     pub max_turns: u64,
@@ -37,6 +37,9 @@ pub const STANDARD: u32 = 4;
 pub const DECIMALS: u32 = 8;
 /// The page has a moment, which the texts `now` and `today` are for the filter `date`.
 pub const NOW: u32 = 16;
+/// The template and the partials are as Jekyll's authors write them, in Jekyll's language instead of another. A name or an
+/// index without a value is nil.
+pub const JEKYLL: u32 = 32;
 
 /// The number of the template in `Outcome::which`.
 pub const TEMPLATE: u32 = 0;

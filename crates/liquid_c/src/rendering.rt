@@ -2,6 +2,11 @@
 ghost use Rattle.std.specs.Prelude.{◌≡◌, ◌≤◌, ◌++◌, if◌then◌else◌, length, min, nat_le, take, drop, IfSome, MatchOption, None, Some};
 ghost use Rattle.liquid_error.specs.meaning.Told.{told};
 ghost use Rattle.liquid_parser.specs.meaning.Plugins.{language_of};
+ghost use Rattle.liquid_std.specs.meaning.marks.Held.{marks_alone};
+ghost use Rattle.liquid_std.specs.meaning.marks.Marks.{no_marks};
+ghost use Rattle.jekyll_language.specs.meaning.Languages.{meaning_of as jekyll_meaning};
+ghost use Rattle.jekyll_language.specs.meaning.Rendered.{jekyll};
+ghost use Rattle.jekyll_language.specs.meaning.Site as site;
 ghost use Rattle.liquid_template.specs.meaning.Runs.{setting};
 ghost use Rattle.liquid_pages.specs.meaning.Faults.{fault_told};
 ghost use Rattle.liquid_pages.specs.meaning.FaultText.{page_fault_text};
@@ -20,17 +25,19 @@ ghost use Rattle.liquid_c.specs.meaning.Outcomes.{
   outcome_alone,
   without_moment,
 };
-ghost use Rattle.liquid_c.specs.steps.Prepared.{AskedComesTo};
+ghost use Rattle.liquid_c.specs.steps.Prepared.{AskedComesTo, JekyllComesTo};
 
+use crate::jekyll::{lend_partials, read_texts};
 use crate::languages::{Chosen, choose_language, page_options};
 use crate::page::{
     BYTES, EMPTY, GLOBALS, Outcome, PARTIAL_NAME, PARTIAL_TEXT, Page, TEMPLATE, TURNS,
 };
 use crate::places::locate;
+use jekyll_language::{SiteBlocks, SiteFilters, SiteLanguage, SiteTags};
 use liquid_core::parser::{Discreet, Language, ParseBlock, ParseFilter, ParseTag};
 use liquid_core::{Error, Fresh, Place};
-use liquid_cycle::Marks;
 use liquid_pages::{PageFault, PageLimit, PageText, Rendered, render_page};
+use liquid_std::marks::Marks;
 use std::alloc::Global;
 use std::rc::Rc;
 
@@ -50,18 +57,45 @@ pub fn render(alloc: Global, page: &Page<'_>, out: &mut [u8], message: &mut [u8]
     ensures { LeavesAsked page.now out.old out.new result }
 {
     match choose_language(alloc, page) {
-        Chosen::NoOptions => refused(NO_OPTIONS),
+        Chosen::NoOptions => refusal(NO_OPTIONS),
         Chosen::NoMoment => refuse_moment(message),
-        Chosen::NoMemory => refused(NO_MEMORY),
+        Chosen::NoMemory => refusal(NO_MEMORY),
         Chosen::Plain(language) => render_in::<(), _, _, _>(alloc, &language, page, out, message),
         Chosen::Standard(language) => {
             render_in::<Marks, _, _, _>(alloc, &language, page, out, message)
         }
+        Chosen::Jekyll(language) => render_jekyll(alloc, &language, page, out, message),
     }
 }
 
+/// Renders a page whose texts are as Jekyll's authors write them.
+fn render_jekyll(
+    alloc: Global,
+    language: &Rc<SiteLanguage>,
+    page: &Page<'_>,
+    out: &mut [u8],
+    message: &mut [u8],
+) -> Outcome
+    ensures { (shown : Shown) → JekyllComesTo (jekyll marks_alone no_marks site.filter_calls)
+        (jekyll_meaning site.filter_made language.now.value) page.now page.now.globals.now shown
+        → Leaves shown out.old out.new result }
+{
+    let Ok(texts) = read_texts(alloc, page) else {
+        return refusal(NO_MEMORY);
+    };
+    let Ok(partials) = lend_partials(alloc, texts.partials.as_slice()) else {
+        return refusal(NO_MEMORY);
+    };
+    let read = Page {
+        text: texts.text.as_slice(),
+        partials: partials.as_slice(),
+        ..*page
+    };
+    render_in::<Marks, SiteFilters, SiteTags, SiteBlocks>(alloc, language, &read, out, message)
+}
+
 /// Returns the outcome of a page of which nothing was rendered, for this reason.
-pub(crate) fn refused(kind: u32) -> Outcome
+pub(crate) fn refusal(kind: u32) -> Outcome
     ensures { result ≡ outcome_alone kind }
 {
     Outcome { kind, ..EMPTY }

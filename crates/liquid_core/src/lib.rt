@@ -98,7 +98,8 @@ pub mod laws {
     pub mod plugins {
         pub use liquid_plugins::{
             evaluate_agrees_with_try_evaluate, evaluate_gives_what_is_tried, filters_see_enough,
-            paths_agree_with_tried_paths, variables_give_tried_paths,
+            lenient_evaluate_agrees_with_try_evaluate, paths_agree_with_tried_paths,
+            variables_give_tried_paths,
         };
     }
 
@@ -183,7 +184,9 @@ pub use liquid_plugins::{
     Renderable, Turn, call_filter,
 };
 pub use liquid_runtime::names::no_names;
-pub use liquid_runtime::{BuiltRuntime, Frame, Fresh, IndexFrame, Runtime, RuntimeBuilder, Scopes};
+pub use liquid_runtime::{
+    BuiltRuntime, Frame, Fresh, IndexFrame, Leniency, Runtime, RuntimeBuilder, Scopes,
+};
 pub use liquid_scopes::{ChainedScopes, FlatScopes, Looks};
 pub use liquid_template::{
     Gate, GatedSink, History, Limits, PartialStore, Sink, SinkFault, Template, TextSink, Watch,

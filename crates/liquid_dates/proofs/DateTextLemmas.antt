@@ -59,23 +59,23 @@ use Rattle.liquid_dates.proofs.PairForms.{joined, two_below, year_form, month_fo
 use Rattle.liquid_dates.specs.steps.DateReader.{
   Read,
   after_byte,
-  two_at,
-  four_at,
+  read_two_digits,
+  read_four_digits,
   year_after,
-  year_at,
+  read_year,
   joined_at,
   whole_of,
   find_name,
-  short_name_at,
+  read_short_name,
   following_text,
-  month_at,
-  short_month_at,
-  weekday_at,
-  dashed_at,
-  long_at,
-  short_at,
-  slashed_at,
-  clock_at,
+  read_month,
+  read_short_month,
+  read_weekday,
+  read_iso_date,
+  read_long_date,
+  read_short_date,
+  read_us_date,
+  read_clock,
 }
 
 -- a reader reads a form: what it reads has that form, and a text of that form is read before a rest that does not begin
@@ -140,21 +140,21 @@ two_sound_test limit a b n cs rest true t e =
     let ones : b ≡ 48 + n % 10 = omega arith in
     (two_digits n, rw (← tens, ← ones, same) refl, (omega arith, refl))
 
-pub two_at_digits : (limit n : ℕ) (rest : List ℕ) → limit ≤ 100 → n < limit → two_at limit (two_digits n ++ rest) ≡ Some (n, rest)
-unfolding two_at
+pub two_at_digits : (limit n : ℕ) (rest : List ℕ) → limit ≤ 100 → n < limit → read_two_digits limit (two_digits n ++ rest) ≡ Some (n, rest)
+unfolding read_two_digits
 two_at_digits limit n rest h l =
     let value : 10 * (48 + n / 10 - 48) + (48 + n % 10 - 48) ≡ n = omega arith in
     let test : (is_digit (48 + n / 10) && (is_digit (48 + n % 10) && nat_lt n limit)) ≡ true = grind (arith, nat_tests) in
     rw (value, test) refl
 
-pub two_sound : (limit : ℕ) (text : List ℕ) (n : ℕ) (rest : List ℕ) → two_at limit text ≡ Some (n, rest) → (front : List ℕ)
+pub two_sound : (limit : ℕ) (text : List ℕ) (n : ℕ) (rest : List ℕ) → read_two_digits limit text ≡ Some (n, rest) → (front : List ℕ)
     × (text ≡ front ++ rest) × two_below limit front n
-unfolding two_at
+unfolding read_two_digits
 two_sound limit [] n rest e = cc
 two_sound limit (a ∷ []) n rest e = cc
 two_sound limit (a ∷ b ∷ cs) n rest e = two_sound_test limit a b n cs rest _ refl e
 
-pub two_reads : (limit : ℕ) → limit ≤ 100 → Reads (two_below limit) (two_at limit)
+pub two_reads : (limit : ℕ) → limit ≤ 100 → Reads (two_below limit) (read_two_digits limit)
 two_reads limit h = record {
   sound = two_sound limit;
   complete = λ front n rest f ends. rw f.1 (two_at_digits limit n rest h f.0);
@@ -229,12 +229,12 @@ whole_complete F r h text a f =
 abbrev four_form : List ℕ → ℕ → Type 0
 four_form text n = (n < 10000) × (text ≡ four_digits n)
 
-four_sound : (text : List ℕ) (n : ℕ) (rest : List ℕ) → four_at text ≡ Some (n, rest) → (front : List ℕ) × (text ≡ front ++ rest)
+four_sound : (text : List ℕ) (n : ℕ) (rest : List ℕ) → read_four_digits text ≡ Some (n, rest) → (front : List ℕ) × (text ≡ front ++ rest)
     × four_form front n
-unfolding four_at
+unfolding read_four_digits
 four_sound text n rest e =
-    let (x, ex, e1) = bind_some (two_at 100 text) _ _ e in
-    let (y, ey, e2) = bind_some (two_at 100 x.1) _ _ e1 in
+    let (x, ex, e1) = bind_some (read_two_digits 100 text) _ _ e in
+    let (y, ey, e2) = bind_some (read_two_digits 100 x.1) _ _ e1 in
     let (s, is, f) = two_sound 100 text x.0 x.1 ex in
     let (u, is₂, g) = two_sound 100 x.1 y.0 y.1 ey in
     let pair = some_pair (100 * x.0 + y.0) n y.1 rest _ _ refl refl e2 in
@@ -249,8 +249,8 @@ four_sound text n rest e =
       (small, refl),
     )
 
-pub four_at_digits : (n : ℕ) (rest : List ℕ) → n < 10000 → four_at (four_digits n ++ rest) ≡ Some (n, rest)
-unfolding four_at
+pub four_at_digits : (n : ℕ) (rest : List ℕ) → n < 10000 → read_four_digits (four_digits n ++ rest) ≡ Some (n, rest)
+unfolding read_four_digits
 four_at_digits n rest h =
     let text : four_digits n ++ rest ≡ two_digits (n / 100) ++ (two_digits (n % 100) ++ rest) =
     append_assoc (two_digits (n / 100)) (two_digits (n % 100)) rest in
@@ -268,12 +268,12 @@ four_at_digits n rest h =
 year_sound : (text : List ℕ) (o : Option (List ℕ)) → after_byte 45 text ≡ o → (y : ℤ) (rest : List ℕ)
     → year_after o text ≡ Some (y, rest) → (front : List ℕ) × (text ≡ front ++ rest) × year_form front y
 year_sound text None t y rest e =
-    let (x, ex, e1) = map_some (four_at text) _ _ e in
+    let (x, ex, e1) = map_some (read_four_digits text) _ _ e in
     let (s, is, f) = four_sound text x.0 x.1 ex in
     let pair = some_pair (pos x.0) y x.1 rest (Some (pos x.0, x.1)) (Some (y, rest)) refl refl (ap Some e1) in
     (s, is ∙ ap (λ t. s ++ t) pair.1, (x.0, f.0, inl (f.1, sym pair.0)))
 year_sound text (Some following) t y rest e =
-    let (x, ex, e1) = map_some (four_at following) _ _ e in
+    let (x, ex, e1) = map_some (read_four_digits following) _ _ e in
     let (s, is, f) = four_sound following x.0 x.1 ex in
     let pair = some_pair (neg_ℤ (pos x.0)) y x.1 rest (Some (neg_ℤ (pos x.0), x.1)) (Some (y, rest)) refl refl (ap Some e1) in (
       45 ∷ s,
@@ -281,15 +281,15 @@ year_sound text (Some following) t y rest e =
       (x.0, f.0, inr (ap (λ t. 45 ∷ t) f.1, sym pair.0)),
     )
 
-pub year_reads : Reads year_form year_at
-unfolding year_at
+pub year_reads : Reads year_form read_year
+unfolding read_year
 year_reads = record {
   sound = λ text y rest e. year_sound text (after_byte 45 text) refl y rest e;
   complete = λ front y rest f ends. year_complete front y rest f.0 f.1 f.2;
 }
   where
     year_complete : (front : List ℕ) (y : ℤ) (rest : List ℕ) (n : ℕ) → n < 10000 → ((front ≡ four_digits n) × (y ≡ pos n)) ⊎
-        ((front ≡ 45 ∷ four_digits n) × (y ≡ neg_ℤ (pos n))) → year_at (front ++ rest) ≡ Some (y, rest)
+        ((front ≡ 45 ∷ four_digits n) × (y ≡ neg_ℤ (pos n))) → read_year (front ++ rest) ≡ Some (y, rest)
     year_complete front y rest n h (inl (is, value)) =
         let plain : eqb (48 + n / 100 / 10) 45 ≡ false = grind (arith, nat_tests) in
         rw (is, value, plain, four_at_digits n rest h) refl
@@ -310,8 +310,8 @@ find_some name front (suc n) m k e = by_test (find_some name front n (m + 1) k) 
     by_test next false t e = let later = next e in (omega arith, omega arith, later.2)
 
 short_name_sound : (name : ℕ → List ℕ) (count m : ℕ) (text : List ℕ) (k : ℕ) (rest : List ℕ)
-    → short_name_at name count m text ≡ Some (k, rest) → (text ≡ name k ++ rest) × (m ≤ k) × (k < m + count)
-unfolding short_name_at
+    → read_short_name name count m text ≡ Some (k, rest) → (text ≡ name k ++ rest) × (m ≤ k) × (k < m + count)
+unfolding read_short_name
 short_name_sound name count m [] k rest e = cc
 short_name_sound name count m (a ∷ []) k rest e = cc
 short_name_sound name count m (a ∷ b ∷ []) k rest e = cc
@@ -324,8 +324,8 @@ short_name_sound name count m (a ∷ b ∷ c ∷ cs) k rest e =
       omega (arith, pair.0),
     )
 
-short_month_here : (m : ℕ) (rest : List ℕ) → 1 ≤ m → m ≤ 12 → short_month_at (short_month_name m ++ rest) ≡ Some (m, rest)
-unfolding short_name_at find_name short_month_name month_name
+short_month_here : (m : ℕ) (rest : List ℕ) → 1 ≤ m → m ≤ 12 → read_short_month (short_month_name m ++ rest) ≡ Some (m, rest)
+unfolding read_short_name find_name short_month_name month_name
 short_month_here zero rest l h = absurd (omega arith)
 short_month_here (suc zero) rest l h = refl
 short_month_here (suc (suc zero)) rest l h = refl
@@ -341,8 +341,8 @@ short_month_here (suc (suc (suc (suc (suc (suc (suc (suc (suc (suc (suc zero))))
 short_month_here (suc (suc (suc (suc (suc (suc (suc (suc (suc (suc (suc (suc zero)))))))))))) rest l h = refl
 short_month_here (suc (suc (suc (suc (suc (suc (suc (suc (suc (suc (suc (suc (suc m))))))))))))) rest l h = absurd (omega arith)
 
-month_here : (m : ℕ) (rest : List ℕ) → 1 ≤ m → m ≤ 12 → month_at (month_name m ++ rest) ≡ Some (m, rest)
-unfolding month_at following_text short_name_at find_name short_month_name month_name
+month_here : (m : ℕ) (rest : List ℕ) → 1 ≤ m → m ≤ 12 → read_month (month_name m ++ rest) ≡ Some (m, rest)
+unfolding read_month following_text read_short_name find_name short_month_name month_name
 month_here zero rest l h = absurd (omega arith)
 month_here (suc zero) rest l h = refl
 month_here (suc (suc zero)) rest l h = refl
@@ -358,8 +358,8 @@ month_here (suc (suc (suc (suc (suc (suc (suc (suc (suc (suc (suc zero))))))))))
 month_here (suc (suc (suc (suc (suc (suc (suc (suc (suc (suc (suc (suc zero)))))))))))) rest l h = refl
 month_here (suc (suc (suc (suc (suc (suc (suc (suc (suc (suc (suc (suc (suc m))))))))))))) rest l h = absurd (omega arith)
 
-weekday_here : (w : ℕ) (rest : List ℕ) → w < 7 → weekday_at (short_weekday_name w ++ rest) ≡ Some (w, rest)
-unfolding short_name_at find_name short_weekday_name weekday_name
+weekday_here : (w : ℕ) (rest : List ℕ) → w < 7 → read_weekday (short_weekday_name w ++ rest) ≡ Some (w, rest)
+unfolding read_short_name find_name short_weekday_name weekday_name
 weekday_here zero rest h = refl
 weekday_here (suc zero) rest h = refl
 weekday_here (suc (suc zero)) rest h = refl
@@ -369,7 +369,7 @@ weekday_here (suc (suc (suc (suc (suc zero))))) rest h = refl
 weekday_here (suc (suc (suc (suc (suc (suc zero)))))) rest h = refl
 weekday_here (suc (suc (suc (suc (suc (suc (suc w))))))) rest h = absurd (omega arith)
 
-pub short_month_reads : Reads (month_form short_month_name) short_month_at
+pub short_month_reads : Reads (month_form short_month_name) read_short_month
 short_month_reads = record {
   sound = λ text m rest e. let s = short_name_sound short_month_name 12 1 text m rest e in (
     short_month_name m,
@@ -379,7 +379,7 @@ short_month_reads = record {
   complete = λ front m rest f ends. rw f.1 (short_month_here m rest f.0.0 f.0.1);
 }
 
-pub weekday_reads : Reads weekday_form weekday_at
+pub weekday_reads : Reads weekday_form read_weekday
 weekday_reads = record {
   sound = λ text w rest e. let s = short_name_sound short_weekday_name 7 0 text w rest e in (
     short_weekday_name w,
@@ -401,10 +401,10 @@ after_text_is text all rest e = by_test (bytes_eq (take (length text) all) text)
         sym (take-append-drop (length text) all) ∙ ap (λ u. u ++ drop (length text) all)
         ((bytes_eq-Decides (take (length text) all) text).0 t) ∙ ap (λ u. text ++ u) same
 
-month_sound : (text : List ℕ) (m : ℕ) (rest : List ℕ) → month_at text ≡ Some (m, rest) → (text ≡ month_name m ++ rest) × (1 ≤ m) × (m < 13)
-unfolding month_at short_month_name
+month_sound : (text : List ℕ) (m : ℕ) (rest : List ℕ) → read_month text ≡ Some (m, rest) → (text ≡ month_name m ++ rest) × (1 ≤ m) × (m < 13)
+unfolding read_month short_month_name
 month_sound text m rest e =
-    let (x, ex, e1) = bind_some (short_month_at text) _ _ e in
+    let (x, ex, e1) = bind_some (read_short_month text) _ _ e in
     let (more, em, e2) = bind_some (following_text (drop 3 (month_name x.0)) x.1) _ _ e1 in
     let pair = some_pair x.0 m more rest (Some (x.0, more)) (Some (m, rest)) refl refl e2 in
     let s = short_name_sound short_month_name 12 1 text x.0 x.1 ex in
@@ -416,46 +416,46 @@ month_sound text m rest e =
       omega (arith, pair.0, s.2),
     )
 
-pub month_reads : Reads (month_form month_name) month_at
+pub month_reads : Reads (month_form month_name) read_month
 month_reads = record {
   sound = λ text m rest e. let s = month_sound text m rest e in (month_name m, s.0, ((s.1, omega (arith, s.2)), refl));
   complete = λ front m rest f ends. rw f.1 (month_here m rest f.0.0 f.0.1);
 }
 
 -- the forms of a date, and the clock
-pub dashed_reads : Reads dashed dashed_at
-unfolding dashed_at
+pub dashed_reads : Reads dashed read_iso_date
+unfolding read_iso_date
 dashed_reads =
     let two = two_reads 100 (omega arith) in
-    joined_reads year_form year_at 45 (joined (two_below 100) 45 (two_below 100)) (joined_at (two_at 100) 45 (two_at 100)) year_reads
-    (joined_reads (two_below 100) (two_at 100) 45 (two_below 100) (two_at 100) two two refl) refl
+    joined_reads year_form read_year 45 (joined (two_below 100) 45 (two_below 100)) (joined_at (read_two_digits 100) 45 (read_two_digits 100)) year_reads
+    (joined_reads (two_below 100) (read_two_digits 100) 45 (two_below 100) (read_two_digits 100) two two refl) refl
 
-pub long_reads : Reads (day_month month_name) long_at
-unfolding long_at
+pub long_reads : Reads (day_month month_name) read_long_date
+unfolding read_long_date
 long_reads =
     let two = two_reads 100 (omega arith) in
-    joined_reads (two_below 100) (two_at 100) 32 (joined (month_form month_name) 32 year_form) (joined_at month_at 32 year_at) two
-    (joined_reads (month_form month_name) month_at 32 year_form year_at month_reads year_reads refl) refl
+    joined_reads (two_below 100) (read_two_digits 100) 32 (joined (month_form month_name) 32 year_form) (joined_at read_month 32 read_year) two
+    (joined_reads (month_form month_name) read_month 32 year_form read_year month_reads year_reads refl) refl
 
-pub short_reads : Reads (day_month short_month_name) short_at
-unfolding short_at
+pub short_reads : Reads (day_month short_month_name) read_short_date
+unfolding read_short_date
 short_reads =
     let two = two_reads 100 (omega arith) in
-    joined_reads (two_below 100) (two_at 100) 32 (joined (month_form short_month_name) 32 year_form)
-    (joined_at short_month_at 32 year_at) two
-    (joined_reads (month_form short_month_name) short_month_at 32 year_form year_at short_month_reads year_reads refl) refl
+    joined_reads (two_below 100) (read_two_digits 100) 32 (joined (month_form short_month_name) 32 year_form)
+    (joined_at read_short_month 32 read_year) two
+    (joined_reads (month_form short_month_name) read_short_month 32 year_form read_year short_month_reads year_reads refl) refl
 
-pub slashed_reads : Reads slashed slashed_at
-unfolding slashed_at
+pub slashed_reads : Reads slashed read_us_date
+unfolding read_us_date
 slashed_reads =
     let two = two_reads 100 (omega arith) in
-    joined_reads (two_below 100) (two_at 100) 47 (joined (two_below 100) 47 year_form) (joined_at (two_at 100) 47 year_at) two
-    (joined_reads (two_below 100) (two_at 100) 47 year_form year_at two year_reads refl) refl
+    joined_reads (two_below 100) (read_two_digits 100) 47 (joined (two_below 100) 47 year_form) (joined_at (read_two_digits 100) 47 read_year) two
+    (joined_reads (two_below 100) (read_two_digits 100) 47 year_form read_year two year_reads refl) refl
 
-pub clock_reads : Reads clock clock_at
-unfolding clock_at
+pub clock_reads : Reads clock read_clock
+unfolding read_clock
 clock_reads =
     let hour = two_reads 24 (omega arith) in
     let sixty = two_reads 60 (omega arith) in
-    joined_reads (two_below 24) (two_at 24) 58 (joined (two_below 60) 58 (two_below 60)) (joined_at (two_at 60) 58 (two_at 60)) hour
-    (joined_reads (two_below 60) (two_at 60) 58 (two_below 60) (two_at 60) sixty sixty refl) refl
+    joined_reads (two_below 24) (read_two_digits 24) 58 (joined (two_below 60) 58 (two_below 60)) (joined_at (read_two_digits 60) 58 (read_two_digits 60)) hour
+    (joined_reads (two_below 60) (read_two_digits 60) 58 (two_below 60) (read_two_digits 60) sixty sixty refl) refl

@@ -79,10 +79,10 @@ use Rattle.liquid_dates.specs.meaning.Printed.{
 }
 use Rattle.liquid_dates.specs.meaning.Instant.{civil_date, civil_time, offset_seconds, nanosecond}
 use Rattle.liquid_dates.specs.meaning.DateText.{
-  dashed_date,
+  iso_date,
   long_date,
   short_date,
-  dashed_date_time,
+  iso_date_time,
   fraction_date_time,
   date_time_forms,
   is_offset_end,
@@ -92,7 +92,7 @@ use Rattle.liquid_dates.specs.meaning.DateText.{
   IsDateTimeText,
 }
 use Rattle.liquid_dates.proofs.PairForms.{year_form, dashed, day_month, clock, offset_form, fraction_form, timed_dashed}
-use Rattle.liquid_dates.specs.steps.DateReader.{timed_dashed_at, offset_end}
+use Rattle.liquid_dates.specs.steps.DateReader.{read_iso_stamp, offset_end}
 use Rattle.liquid_dates.proofs.DateTextLemmas.{some_pair}
 use Rattle.liquid_dates.proofs.TimedLemmas.{stamped_whole, timed_dashed_reads}
 
@@ -133,7 +133,7 @@ printed_no_word (negsuc n) rest y h = omega arith
 
 -- a printed date is read back as itself
 pub date_read_back : (d : CivilDate) (moment : DateTime) → IsDateText (date_text d) moment d
-unfolding date_text dashed_date long_date short_date
+unfolding date_text iso_date long_date short_date
 date_read_back d moment =
     let following = 45 ∷ (two_digits d.month ++ (45 ∷ two_digits d.day)) in
     let no_day : (name : ℕ → List ℕ) (v : ℕ × (ℕ × ℤ)) → day_month name (date_text d) v → ⊥ = λ name v f. let s =
@@ -335,8 +335,8 @@ unfolding fraction_text
 no_fraction nano e = rw e refl
 
 seconds_printed : (dt : DateTime) → unsigned_abs (offset_seconds dt) < 72_000 → unsigned_abs (offset_seconds dt) % 60 ≡ 0
-    → nanosecond dt ≡ 0 → dashed_date_time (date_time_text dt) dt
-unfolding dashed_date_time
+    → nanosecond dt ≡ 0 → iso_date_time (date_time_text dt) dt
+unfolding iso_date_time
 seconds_printed dt small whole none =
     let d = date_text (civil_date dt) in
     let c = clock_text (civil_time dt) in
@@ -400,10 +400,10 @@ fraction_printed dt small whole some =
       offset_printed (offset_seconds dt) small whole,
     )
 
-not_dashed : (dt b : DateTime) → 0 < nanosecond dt → ¬ (dashed_date_time (date_time_text dt) b)
-unfolding dashed_date_time
+not_dashed : (dt b : DateTime) → 0 < nanosecond dt → ¬ (iso_date_time (date_time_text dt) b)
+unfolding iso_date_time
 not_dashed dt b some (form, none) =
-    let s = stamped_whole timed_dashed timed_dashed_at timed_dashed_reads true (date_time_text dt) (
+    let s = stamped_whole timed_dashed read_iso_stamp timed_dashed_reads true (date_time_text dt) (
       ((civil_date b).year, ((civil_date b).month, (civil_date b).day)),
       ((civil_time b).hour, ((civil_time b).minute, (civil_time b).second)),
     ) (offset_seconds b) form in
@@ -411,7 +411,7 @@ not_dashed dt b some (form, none) =
     let t = civil_time dt in
     let following = 46 ∷ (fraction_digits 9 (nanosecond dt) ++ (32 ∷ offset_text (offset_seconds dt))) in
     let v : (ℤ × (ℕ × ℕ)) × (ℕ × (ℕ × ℕ)) = ((d.year, (d.month, d.day)), (t.hour, (t.minute, t.second))) in
-    let read : timed_dashed_at (date_time_text dt) ≡ Some (v, following) = ap timed_dashed_at (with_fraction dt some)
+    let read : read_iso_stamp (date_time_text dt) ≡ Some (v, following) = ap read_iso_stamp (with_fraction dt some)
     ∙ timed_dashed_reads.complete (date_text d ++ (32 ∷ clock_text t)) v following (stamp_printed d t) refl in
     let same = some_pair _ _ _ _ _ _ read s.read refl in
     no_offset (fraction_digits 9 (nanosecond dt) ++ (32 ∷ offset_text (offset_seconds dt))) _ (ap (offset_end true) same.1 ∙ s.ends)

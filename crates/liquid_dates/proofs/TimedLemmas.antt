@@ -73,30 +73,30 @@ use Rattle.liquid_dates.proofs.PairForms.{
 use Rattle.liquid_dates.specs.steps.DateReader.{
   Read,
   after_byte,
-  two_at,
-  year_at,
+  read_two_digits,
+  read_year,
   joined_at,
   whole_of,
-  short_month_at,
-  weekday_at,
-  dashed_at,
-  long_at,
-  short_at,
-  slashed_at,
-  clock_at,
-  hours_at,
+  read_short_month,
+  read_weekday,
+  read_iso_date,
+  read_long_date,
+  read_short_date,
+  read_us_date,
+  read_clock,
+  read_hours,
   sign_after,
-  offset_at,
+  read_offset,
   or_one_digit,
-  short_day_at,
+  read_short_day,
   digits_from,
-  fraction_at,
-  timed_dashed_at,
-  timed_fraction_at,
-  timed_long_at,
-  timed_short_at,
-  timed_slashed_at,
-  timed_weekday_at,
+  read_fraction,
+  read_iso_stamp,
+  read_fraction_stamp,
+  read_long_stamp,
+  read_short_stamp,
+  read_us_stamp,
+  read_weekday_stamp,
   offset_end,
 }
 use Rattle.liquid_dates.proofs.DateTextLemmas.{
@@ -129,11 +129,11 @@ pub record IsHours (text : List ℕ) (n : ℕ) (rest : List ℕ) : Type 0 where
   pub is : text ≡ (two_digits h ++ two_digits m) ++ rest
   pub value : n ≡ h * 3600 + m * 60
 
-hours_sound : (text : List ℕ) (n : ℕ) (rest : List ℕ) → hours_at text ≡ Some (n, rest) → IsHours text n rest
-unfolding hours_at
+hours_sound : (text : List ℕ) (n : ℕ) (rest : List ℕ) → read_hours text ≡ Some (n, rest) → IsHours text n rest
+unfolding read_hours
 hours_sound text n rest e =
-    let (x, ex, e1) = bind_some (two_at 100 text) _ _ e in
-    let (y, ey, e2) = bind_some (two_at 60 x.1) _ _ e1 in
+    let (x, ex, e1) = bind_some (read_two_digits 100 text) _ _ e in
+    let (y, ey, e2) = bind_some (read_two_digits 60 x.1) _ _ e1 in
     let (s, is, f) = two_sound 100 text x.0 x.1 ex in
     let (u, is₂, g) = two_sound 60 x.1 y.0 y.1 ey in
     let pair = some_pair (x.0 * 3600 + y.0 * 60) n y.1 rest _ _ refl refl e2 in
@@ -148,9 +148,9 @@ hours_sound text n rest e =
       value = sym pair.0;
     }
 
-hours_digits : (h m : ℕ) (rest : List ℕ) → h < 100 → m < 60 → hours_at ((two_digits h ++ two_digits m) ++ rest) ≡ Some
+hours_digits : (h m : ℕ) (rest : List ℕ) → h < 100 → m < 60 → read_hours ((two_digits h ++ two_digits m) ++ rest) ≡ Some
     (h * 3600 + m * 60, rest)
-unfolding hours_at
+unfolding read_hours
 hours_digits h m rest a b =
     rw (
       append_assoc (two_digits h) (two_digits m) rest,
@@ -162,7 +162,7 @@ offset_sound : (text : List ℕ) (plus minus : Option (List ℕ)) → after_byte
     → (z : ℤ) (rest : List ℕ) → sign_after plus minus ≡ Some (z, rest) → (front : List ℕ) × (text ≡ front ++ rest) × offset_form front z
 offset_sound text None None p q z rest e = cc
 offset_sound text (Some following) minus p q z rest e =
-    let (x, ex, e1) = map_some (hours_at following) _ _ e in
+    let (x, ex, e1) = map_some (read_hours following) _ _ e in
     let pair = some_pair (pos x.0) z x.1 rest (Some (pos x.0, x.1)) (Some (z, rest)) refl refl (ap Some e1) in
     let s = hours_sound following x.0 x.1 ex in
     let digits = two_digits s.h ++ two_digits s.m in (
@@ -171,7 +171,7 @@ offset_sound text (Some following) minus p q z rest e =
       (s.h, s.m, s.hours, s.minutes, inl (refl, sym pair.0 ∙ ap pos s.value)),
     )
 offset_sound text None (Some following) p q z rest e =
-    let (x, ex, e1) = map_some (hours_at following) _ _ e in
+    let (x, ex, e1) = map_some (read_hours following) _ _ e in
     let pair = some_pair (neg_ℤ (pos x.0)) z x.1 rest (Some (neg_ℤ (pos x.0), x.1)) (Some (z, rest)) refl refl (ap Some e1) in
     let s = hours_sound following x.0 x.1 ex in
     let digits = two_digits s.h ++ two_digits s.m in (
@@ -182,13 +182,13 @@ offset_sound text None (Some following) p q z rest e =
 
 offset_complete : (front : List ℕ) (z : ℤ) (rest : List ℕ) (h m : ℕ) → h < 100 → m < 60
     → ((front ≡ 43 ∷ (two_digits h ++ two_digits m)) × (z ≡ pos (h * 3600 + m * 60))) ⊎
-    ((front ≡ 45 ∷ (two_digits h ++ two_digits m)) × (z ≡ neg_ℤ (pos (h * 3600 + m * 60)))) → offset_at (front ++ rest) ≡ Some (z, rest)
-unfolding offset_at
+    ((front ≡ 45 ∷ (two_digits h ++ two_digits m)) × (z ≡ neg_ℤ (pos (h * 3600 + m * 60)))) → read_offset (front ++ rest) ≡ Some (z, rest)
+unfolding read_offset
 offset_complete front z rest h m a b (inl (is, value)) = rw (is, value, hours_digits h m rest a b) refl
 offset_complete front z rest h m a b (inr (is, value)) = rw (is, value, hours_digits h m rest a b) refl
 
-pub offset_reads : Reads offset_form offset_at
-unfolding offset_at
+pub offset_reads : Reads offset_form read_offset
+unfolding read_offset
 offset_reads = record {
   sound = λ text z rest e. offset_sound text _ _ refl refl z rest e;
   complete = λ front z rest f ends. offset_complete front z rest f.0 f.1 f.2 f.3 f.4;
@@ -204,7 +204,7 @@ one_digit_sound c n cs rest true t e =
     let is : c ≡ 48 + n = omega (arith, pair.0) in
     (omega (arith, pair.0), rw (is, pair.1) refl)
 
-short_day_sound : (text : List ℕ) (o : Read ℕ) → two_at 100 text ≡ o → (n : ℕ) (rest : List ℕ) → or_one_digit o text ≡ Some (n, rest)
+short_day_sound : (text : List ℕ) (o : Read ℕ) → read_two_digits 100 text ≡ o → (n : ℕ) (rest : List ℕ) → or_one_digit o text ≡ Some (n, rest)
     → (front : List ℕ) × (text ≡ front ++ rest) × short_day front n
 short_day_sound text (Some x) t n rest e =
     let (s, is, f) = two_sound 100 text n rest (t ∙ e) in (s, is, inr f)
@@ -212,8 +212,8 @@ short_day_sound [] None t n rest e = cc
 short_day_sound (c ∷ cs) None t n rest e =
     let s = one_digit_sound c n cs rest _ refl e in ((48 + n) ∷ [], s.1, inl (s.0, refl))
 
-one_digit_alone : (n : ℕ) (rest : List ℕ) → begins is_digit rest ≡ false → two_at 100 ((48 + n) ∷ rest) ≡ None
-unfolding two_at
+one_digit_alone : (n : ℕ) (rest : List ℕ) → begins is_digit rest ≡ false → read_two_digits 100 ((48 + n) ∷ rest) ≡ None
+unfolding read_two_digits
 one_digit_alone n [] ends = refl
 one_digit_alone n (c ∷ cs) ends =
     let test : (is_digit (48 + n) && (is_digit c && nat_lt (10 * (48 + n - 48) + (c - 48)) 100)) ≡ false =
@@ -225,16 +225,16 @@ one_digit_alone n (c ∷ cs) ends =
     and_false false = refl
 
 short_day_complete : (front : List ℕ) (n : ℕ) (rest : List ℕ) → short_day front n → begins is_digit rest ≡ false
-    → short_day_at (front ++ rest) ≡ Some (n, rest)
-unfolding short_day_at
+    → read_short_day (front ++ rest) ≡ Some (n, rest)
+unfolding read_short_day
 short_day_complete front n rest (inl (small, is)) ends =
     let digit : is_digit (48 + n) ≡ true = grind (arith, nat_tests) in
     let value : 48 + n - 48 ≡ n = omega arith in
     rw (is, one_digit_alone n rest ends, digit, value) refl
 short_day_complete front n rest (inr (small, is)) ends = rw (is, two_at_digits 100 n rest (omega arith) small) refl
 
-pub short_day_reads : Reads short_day short_day_at
-unfolding short_day_at
+pub short_day_reads : Reads short_day read_short_day
+unfolding read_short_day
 short_day_reads = record {
   sound = λ text n rest e. short_day_sound text _ refl n rest e;
   complete = short_day_complete;
@@ -296,9 +296,9 @@ fraction_end count value r rest n true t e =
     let pair = some_pair (value * 10 ^ (9 - count)) n r rest _ _ refl refl e in
     (grind (arith, nat_tests), grind (arith, nat_tests), sym pair.0, pair.1)
 
-fraction_sound : (text : List ℕ) (n : ℕ) (rest : List ℕ) → fraction_at text ≡ Some (n, rest) → (front : List ℕ) × (text ≡ front ++ rest)
+fraction_sound : (text : List ℕ) (n : ℕ) (rest : List ℕ) → read_fraction text ≡ Some (n, rest) → (front : List ℕ) × (text ≡ front ++ rest)
     × fraction_form front n
-unfolding fraction_at digits_number
+unfolding read_fraction digits_number
 fraction_sound text n rest e =
     let d = digits_sound text 0 0 in
     let f = fraction_end (digits_from 0 0 text).0.0 (digits_from 0 0 text).0.1 (digits_from 0 0 text).1 rest n _ refl e in
@@ -306,49 +306,49 @@ fraction_sound text n rest e =
     (d.digits, d.is ∙ ap (λ t. d.digits ++ t) f.3, (d.passes, (omega (arith, f.0), omega (arith, f.1)), f.2 ∙ rw (count, d.value_is) refl))
 
 fraction_complete : (front : List ℕ) (n : ℕ) (rest : List ℕ) → fraction_form front n → begins is_digit rest ≡ false
-    → fraction_at (front ++ rest) ≡ Some (n, rest)
-unfolding fraction_at digits_number
+    → read_fraction (front ++ rest) ≡ Some (n, rest)
+unfolding read_fraction digits_number
 fraction_complete front n rest (passes, within, value) ends =
     let d = digits_complete front 0 0 rest passes (omega (arith, within.1)) ends in
     let count : 0 + length front ≡ length front = omega arith in
     let test : (nat_lt 0 (length front) && nat_lt (length front) 10) ≡ true = grind (arith, nat_tests) in
     rw (d, count, test, value) refl
 
-pub fraction_reads : Reads fraction_form fraction_at
+pub fraction_reads : Reads fraction_form read_fraction
 fraction_reads = record { sound = fraction_sound; complete = fraction_complete }
 
 -- the forms of a date with a time
-pub timed_dashed_reads : Reads timed_dashed timed_dashed_at
-unfolding timed_dashed_at
-timed_dashed_reads = joined_reads dashed dashed_at 32 clock clock_at dashed_reads clock_reads refl
+pub timed_dashed_reads : Reads timed_dashed read_iso_stamp
+unfolding read_iso_stamp
+timed_dashed_reads = joined_reads dashed read_iso_date 32 clock read_clock dashed_reads clock_reads refl
 
-pub timed_fraction_reads : Reads timed_fraction timed_fraction_at
-unfolding timed_fraction_at
+pub timed_fraction_reads : Reads timed_fraction read_fraction_stamp
+unfolding read_fraction_stamp
 timed_fraction_reads =
-    joined_reads dashed dashed_at 32 (joined clock 46 fraction_form) (joined_at clock_at 46 fraction_at) dashed_reads
-    (joined_reads clock clock_at 46 fraction_form fraction_at clock_reads fraction_reads refl) refl
+    joined_reads dashed read_iso_date 32 (joined clock 46 fraction_form) (joined_at read_clock 46 read_fraction) dashed_reads
+    (joined_reads clock read_clock 46 fraction_form read_fraction clock_reads fraction_reads refl) refl
 
-pub timed_long_reads : Reads (timed_day_month month_name) timed_long_at
-unfolding timed_long_at
-timed_long_reads = joined_reads (day_month month_name) long_at 32 clock clock_at long_reads clock_reads refl
+pub timed_long_reads : Reads (timed_day_month month_name) read_long_stamp
+unfolding read_long_stamp
+timed_long_reads = joined_reads (day_month month_name) read_long_date 32 clock read_clock long_reads clock_reads refl
 
-pub timed_short_reads : Reads (timed_day_month short_month_name) timed_short_at
-unfolding timed_short_at
-timed_short_reads = joined_reads (day_month short_month_name) short_at 32 clock clock_at short_reads clock_reads refl
+pub timed_short_reads : Reads (timed_day_month short_month_name) read_short_stamp
+unfolding read_short_stamp
+timed_short_reads = joined_reads (day_month short_month_name) read_short_date 32 clock read_clock short_reads clock_reads refl
 
-pub timed_slashed_reads : Reads timed_slashed timed_slashed_at
-unfolding timed_slashed_at
-timed_slashed_reads = joined_reads slashed slashed_at 32 clock clock_at slashed_reads clock_reads refl
+pub timed_slashed_reads : Reads timed_slashed read_us_stamp
+unfolding read_us_stamp
+timed_slashed_reads = joined_reads slashed read_us_date 32 clock read_clock slashed_reads clock_reads refl
 
-pub timed_weekday_reads : Reads timed_weekday timed_weekday_at
-unfolding timed_weekday_at
+pub timed_weekday_reads : Reads timed_weekday read_weekday_stamp
+unfolding read_weekday_stamp
 timed_weekday_reads =
-    joined_reads weekday_form weekday_at 32 (joined (month_form short_month_name) 32 (joined short_day 32 (joined clock 32 year_form)))
-    (joined_at short_month_at 32 (joined_at short_day_at 32 (joined_at clock_at 32 year_at))) weekday_reads
-    (joined_reads (month_form short_month_name) short_month_at 32 (joined short_day 32 (joined clock 32 year_form))
-    (joined_at short_day_at 32 (joined_at clock_at 32 year_at)) short_month_reads
-    (joined_reads short_day short_day_at 32 (joined clock 32 year_form) (joined_at clock_at 32 year_at) short_day_reads
-    (joined_reads clock clock_at 32 year_form year_at clock_reads year_reads refl) refl) refl) refl
+    joined_reads weekday_form read_weekday 32 (joined (month_form short_month_name) 32 (joined short_day 32 (joined clock 32 year_form)))
+    (joined_at read_short_month 32 (joined_at read_short_day 32 (joined_at read_clock 32 read_year))) weekday_reads
+    (joined_reads (month_form short_month_name) read_short_month 32 (joined short_day 32 (joined clock 32 year_form))
+    (joined_at read_short_day 32 (joined_at read_clock 32 read_year)) short_month_reads
+    (joined_reads short_day read_short_day 32 (joined clock 32 year_form) (joined_at read_clock 32 read_year) short_day_reads
+    (joined_reads clock read_clock 32 year_form read_year clock_reads year_reads refl) refl) refl) refl
 
 -- two texts with ends of the same length
 append_cancel : (xs us ys vs : List ℕ) → xs ++ ys ≡ us ++ vs → length ys ≡ length vs → (xs ≡ us) × (ys ≡ vs)
@@ -384,12 +384,12 @@ stamped_found F r reads true text a rest z e o =
     let (s, is, f) = reads.sound text a rest e in
     by_space (after_byte 32 rest) refl o
   where
-    by_space : (more : Option (List ℕ)) → after_byte 32 rest ≡ more → whole_of (option_and_then offset_at more) ≡ Some z
+    by_space : (more : Option (List ℕ)) → after_byte 32 rest ≡ more → whole_of (option_and_then read_offset more) ≡ Some z
         → joined F 32 offset_form text (a, z)
     by_space None t o = cc
     by_space (Some more) t o =
         let (s, is, f) = reads.sound text a rest e in
-        (s, more, is ∙ ap (λ u. s ++ u) (after_byte_is 32 rest more t), f, whole_sound offset_form offset_at offset_reads more z o)
+        (s, more, is ∙ ap (λ u. s ++ u) (after_byte_is 32 rest more t), f, whole_sound offset_form read_offset offset_reads more z o)
 stamped_found F r reads false text a [] z e o =
     let (s, is, f) = reads.sound text a [] e in
     let all : text ≡ s = is ∙ append-nil s in
@@ -408,7 +408,7 @@ pub stamped_whole : {A : Type 0} (F : List ℕ → A → Type 0) (r : List ℕ �
 stamped_whole F r reads true text a z (s, u, is, f, o) = record {
   rest = 32 ∷ u;
   read = rw is (reads.complete s a (32 ∷ u) f refl);
-  ends = whole_complete offset_form offset_at offset_reads u z o;
+  ends = whole_complete offset_form read_offset offset_reads u z o;
 }
 stamped_whole F r reads false text a z (s, u, is, f, o) =
     let five : length u ≡ 5 = length_offset u z o in
@@ -425,7 +425,7 @@ stamped_whole F r reads false text a z (s, u, is, f, o) =
 pub joined_once : {A : Type 0} (F : List ℕ → A → Type 0) (r : List ℕ → Read A) → Reads F r → (text : List ℕ) (a b : A) (y z : ℤ)
     → joined F 32 offset_form text (a, y) → joined F 32 offset_form text (b, z) → (a ≡ b) × (y ≡ z)
 joined_once {A = A} F r reads text a b y z h k =
-    let both = joined_reads F r 32 offset_form offset_at reads offset_reads refl in
-    let e = sym (whole_complete (joined F 32 offset_form) (joined_at r 32 offset_at) both text (a, y) h)
-    ∙ whole_complete (joined F 32 offset_form) (joined_at r 32 offset_at) both text (b, z) k in
+    let both = joined_reads F r 32 offset_form read_offset reads offset_reads refl in
+    let e = sym (whole_complete (joined F 32 offset_form) (joined_at r 32 read_offset) both text (a, y) h)
+    ∙ whole_complete (joined F 32 offset_form) (joined_at r 32 read_offset) both text (b, z) k in
     (ap (λ (o : Option (A × ℤ)). (unwrap_or o (a, y)).0) e, ap (λ (o : Option (A × ℤ)). (unwrap_or o (a, y)).1) e)

@@ -25,9 +25,9 @@ use Rattle.std.specs.Borrow.{Bor}
 use Rattle.jiff_core.specs.declared.civil.date.Date.{Date as CivilDate}
 use Rattle.liquid_dates.specs.declared.reading.Ymd.{Ymd}
 use Rattle.liquid_dates.specs.meaning.Names.{month_name, short_month_name}
-use Rattle.liquid_dates.specs.meaning.DateText.{dashed_date, long_date, short_date, date_forms, SameDate}
+use Rattle.liquid_dates.specs.meaning.DateText.{iso_date, long_date, short_date, date_forms, SameDate}
 use Rattle.liquid_dates.proofs.PairForms.{dashed, day_month}
-use Rattle.liquid_dates.specs.steps.DateReader.{Read, read_of, whole_of, by_day, by_year, long_at, short_at, dashed_at, IsWholeDate}
+use Rattle.liquid_dates.specs.steps.DateReader.{Read, read_of, whole_of, by_day, by_year, read_long_date, read_short_date, read_iso_date, IsWholeDate}
 use Rattle.liquid_dates.proofs.DateTextLemmas.{whole_sound, whole_complete, long_reads, short_reads, dashed_reads}
 
 pub whole_some : {A : Type 0} (a v : A) (rest : List ℕ) → whole_of (Some (a, rest)) ≡ Some v → (rest ≡ []) × (a ≡ v)
@@ -68,46 +68,46 @@ whole_by_year r (Some (ymd, rest)) d e h =
     (w.0, ap (λ p. p.0) w.1, ap (λ p. p.1.0) w.1, ap (λ p. p.1.1) w.1)
 
 -- the date that was read has the form, and a date of the form is the one that was read
-pub long_found : (text : List ℕ) (read : Option (Ymd × Bor (List ℕ))) (d : CivilDate) → option_map by_day (read_of read) ≡ long_at text
+pub long_found : (text : List ℕ) (read : Option (Ymd × Bor (List ℕ))) (d : CivilDate) → option_map by_day (read_of read) ≡ read_long_date text
     → IsWholeDate read d → long_date text d
 unfolding long_date
-long_found text read d e h = whole_sound (day_month month_name) long_at long_reads text (day_first d)
-    (by_day_whole (long_at text) read d e h)
+long_found text read d e h = whole_sound (day_month month_name) read_long_date long_reads text (day_first d)
+    (by_day_whole (read_long_date text) read d e h)
 
-pub long_whole : (text : List ℕ) (read : Option (Ymd × Bor (List ℕ))) (d : CivilDate) → option_map by_day (read_of read) ≡ long_at text
+pub long_whole : (text : List ℕ) (read : Option (Ymd × Bor (List ℕ))) (d : CivilDate) → option_map by_day (read_of read) ≡ read_long_date text
     → long_date text d → IsWholeDate read d
 unfolding long_date
-long_whole text read d e h = whole_by_day (long_at text) read d e
-    (whole_complete (day_month month_name) long_at long_reads text (day_first d) h)
+long_whole text read d e h = whole_by_day (read_long_date text) read d e
+    (whole_complete (day_month month_name) read_long_date long_reads text (day_first d) h)
 
-pub short_found : (text : List ℕ) (read : Option (Ymd × Bor (List ℕ))) (d : CivilDate) → option_map by_day (read_of read) ≡ short_at text
+pub short_found : (text : List ℕ) (read : Option (Ymd × Bor (List ℕ))) (d : CivilDate) → option_map by_day (read_of read) ≡ read_short_date text
     → IsWholeDate read d → short_date text d
 unfolding short_date
-short_found text read d e h = whole_sound (day_month short_month_name) short_at short_reads text (day_first d)
-    (by_day_whole (short_at text) read d e h)
+short_found text read d e h = whole_sound (day_month short_month_name) read_short_date short_reads text (day_first d)
+    (by_day_whole (read_short_date text) read d e h)
 
-pub short_whole : (text : List ℕ) (read : Option (Ymd × Bor (List ℕ))) (d : CivilDate) → option_map by_day (read_of read) ≡ short_at text
+pub short_whole : (text : List ℕ) (read : Option (Ymd × Bor (List ℕ))) (d : CivilDate) → option_map by_day (read_of read) ≡ read_short_date text
     → short_date text d → IsWholeDate read d
 unfolding short_date
-short_whole text read d e h = whole_by_day (short_at text) read d e
-    (whole_complete (day_month short_month_name) short_at short_reads text (day_first d) h)
+short_whole text read d e h = whole_by_day (read_short_date text) read d e
+    (whole_complete (day_month short_month_name) read_short_date short_reads text (day_first d) h)
 
 pub dashed_found : (text : List ℕ) (read : Option (Ymd × Bor (List ℕ))) (d : CivilDate)
-    → option_map by_year (read_of read) ≡ dashed_at text → IsWholeDate read d → dashed_date text d
-unfolding dashed_date
-dashed_found text read d e h = whole_sound dashed dashed_at dashed_reads text (year_first d) (by_year_whole (dashed_at text) read d e h)
+    → option_map by_year (read_of read) ≡ read_iso_date text → IsWholeDate read d → iso_date text d
+unfolding iso_date
+dashed_found text read d e h = whole_sound dashed read_iso_date dashed_reads text (year_first d) (by_year_whole (read_iso_date text) read d e h)
 
 pub dashed_whole : (text : List ℕ) (read : Option (Ymd × Bor (List ℕ))) (d : CivilDate)
-    → option_map by_year (read_of read) ≡ dashed_at text → dashed_date text d → IsWholeDate read d
-unfolding dashed_date
-dashed_whole text read d e h = whole_by_year (dashed_at text) read d e (whole_complete dashed dashed_at dashed_reads text (year_first d) h)
+    → option_map by_year (read_of read) ≡ read_iso_date text → iso_date text d → IsWholeDate read d
+unfolding iso_date
+dashed_whole text read d e h = whole_by_year (read_iso_date text) read d e (whole_complete dashed read_iso_date dashed_reads text (year_first d) h)
 
 -- a text has one date by each form, and so by the first that fits
 long_once : (text : List ℕ) (a b : CivilDate) → long_date text a → long_date text b → SameDate a b
 unfolding long_date
 long_once text a b h k =
-    let e : Some (day_first a) ≡ Some (day_first b) = sym (whole_complete (day_month month_name) long_at long_reads text (day_first a) h)
-    ∙ whole_complete (day_month month_name) long_at long_reads text (day_first b) k in
+    let e : Some (day_first a) ≡ Some (day_first b) = sym (whole_complete (day_month month_name) read_long_date long_reads text (day_first a) h)
+    ∙ whole_complete (day_month month_name) read_long_date long_reads text (day_first b) k in
     let p : day_first a ≡ day_first b = ap (λ o. unwrap_or o (day_first a)) e in
     (ap (λ q. q.1.1) p, ap (λ q. q.1.0) p, ap (λ q. q.0) p)
 
@@ -115,16 +115,16 @@ short_once : (text : List ℕ) (a b : CivilDate) → short_date text a → short
 unfolding short_date
 short_once text a b h k =
     let e : Some (day_first a) ≡ Some (day_first b) =
-    sym (whole_complete (day_month short_month_name) short_at short_reads text (day_first a) h)
-    ∙ whole_complete (day_month short_month_name) short_at short_reads text (day_first b) k in
+    sym (whole_complete (day_month short_month_name) read_short_date short_reads text (day_first a) h)
+    ∙ whole_complete (day_month short_month_name) read_short_date short_reads text (day_first b) k in
     let p : day_first a ≡ day_first b = ap (λ o. unwrap_or o (day_first a)) e in
     (ap (λ q. q.1.1) p, ap (λ q. q.1.0) p, ap (λ q. q.0) p)
 
-dashed_once : (text : List ℕ) (a b : CivilDate) → dashed_date text a → dashed_date text b → SameDate a b
-unfolding dashed_date
+dashed_once : (text : List ℕ) (a b : CivilDate) → iso_date text a → iso_date text b → SameDate a b
+unfolding iso_date
 dashed_once text a b h k =
-    let e : Some (year_first a) ≡ Some (year_first b) = sym (whole_complete dashed dashed_at dashed_reads text (year_first a) h)
-    ∙ whole_complete dashed dashed_at dashed_reads text (year_first b) k in
+    let e : Some (year_first a) ≡ Some (year_first b) = sym (whole_complete dashed read_iso_date dashed_reads text (year_first a) h)
+    ∙ whole_complete dashed read_iso_date dashed_reads text (year_first b) k in
     let p : year_first a ≡ year_first b = ap (λ o. unwrap_or o (year_first a)) e in
     (ap (λ q. q.0) p, ap (λ q. q.1.0) p, ap (λ q. q.1.1) p)
 

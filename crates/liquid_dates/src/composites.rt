@@ -27,13 +27,15 @@ pub(crate) fn composite_text(
     ensures { OnOk result (string_bytes out.new
         ≡ string_bytes out.old ++ Spec.composite_text flags width composite date_time) }
 {
-    let missing = width.unwrap_or(0).saturating_sub(counted(composite));
+    let missing = width
+        .unwrap_or(0)
+        .saturating_sub(composite_length(composite));
     fill(out, missing, text_filler(flags.filling))?;
     composite_of(out, flags.case, composite, date_time)
 }
 
-fn counted(composite: Composite) -> usize
-    ensures { result ≡ Spec.counted composite }
+fn composite_length(composite: Composite) -> usize
+    ensures { result ≡ Spec.composite_length composite }
 {
     match composite {
         Composite::DashedDate => 10,

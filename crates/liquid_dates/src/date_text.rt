@@ -5,7 +5,7 @@ ghost use Rattle.liquid_dates.specs.steps.DateReader.{IsWholeDate};
 ghost use Rattle.liquid_dates.specs.meaning.DateText.{IsDateText, SameDate, date_forms};
 ghost use Rattle.liquid_dates.specs.meaning.DateText as Form;
 
-use crate::reading::{Ymd, dashed_at, long_at, short_at};
+use crate::reading::{Ymd, read_iso_date, read_long_date, read_short_date};
 use crate::{Date, DateTime};
 
 impl Date {
@@ -37,7 +37,7 @@ fn first_date(text: &[u8]) -> Option<Date>
         Some(date) => Some(date),
         None => match short_date(text) {
             Some(date) => Some(date),
-            None => dashed_date(text),
+            None => iso_date(text),
         },
     }
 }
@@ -47,7 +47,7 @@ fn long_date(text: &[u8]) -> Option<Date>
     ensures fits { IfSome result (λ d. Form.long_date text.now d) }
     ensures none { IfNone result ((d : CivilDate) → ¬ (Form.long_date text.now d)) }
 {
-    let read = long_at(text);
+    let read = read_long_date(text);
     date_of(read)
 }
 
@@ -56,16 +56,16 @@ fn short_date(text: &[u8]) -> Option<Date>
     ensures fits { IfSome result (λ d. Form.short_date text.now d) }
     ensures none { IfNone result ((d : CivilDate) → ¬ (Form.short_date text.now d)) }
 {
-    let read = short_at(text);
+    let read = read_short_date(text);
     date_of(read)
 }
 
 // Reads `YYYY-MM-DD`.
-fn dashed_date(text: &[u8]) -> Option<Date>
-    ensures fits { IfSome result (λ d. Form.dashed_date text.now d) }
-    ensures none { IfNone result ((d : CivilDate) → ¬ (Form.dashed_date text.now d)) }
+fn iso_date(text: &[u8]) -> Option<Date>
+    ensures fits { IfSome result (λ d. Form.iso_date text.now d) }
+    ensures none { IfNone result ((d : CivilDate) → ¬ (Form.iso_date text.now d)) }
 {
-    let read = dashed_at(text);
+    let read = read_iso_date(text);
     date_of(read)
 }
 

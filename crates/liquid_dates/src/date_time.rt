@@ -32,7 +32,7 @@ pub struct DateTime {
 }
 
 // Returns what a clock at the offset shows at the instant, in nanoseconds.
-fn shifted(date_time: DateTime, offset: Offset) -> i128
+fn shift(date_time: DateTime, offset: Offset) -> i128
     ensures value { result ≡ instant date_time +ℤ nanos_of_seconds offset.seconds }
     ensures bound { IsWithin 1_000_000_000_000_000_000_000 result }
 {
@@ -155,7 +155,7 @@ impl DateTime {
         ensures offset { IfOk result (λ dt. offset_seconds dt ≡ offset.seconds) }
         ensures err { IfErr result (λ e. e ≡ DateError.OutsideYears) }
     {
-        let local = shifted(self, offset);
+        let local = shift(self, offset);
         match civil::DateTime::from_nanosecond(local) {
             Ok(local) => Ok(DateTime { local, offset }),
             Err(_) => Err(DateError::OutsideYears),

@@ -13,8 +13,8 @@ ghost use Rattle.liquid_dates.specs.meaning.Instant as Instant;
 use crate::flags::is_digit;
 use crate::reading::after_byte;
 use crate::stamps::{
-    Stamp, offset_at, timed_dashed_at, timed_fraction_at, timed_long_at, timed_short_at,
-    timed_slashed_at, timed_weekday_at,
+    Stamp, read_fraction_stamp, read_iso_stamp, read_long_stamp, read_offset, read_short_stamp,
+    read_us_stamp, read_weekday_stamp,
 };
 use crate::{Date, DateTime};
 
@@ -51,9 +51,9 @@ fn offset_end(given: bool, rest: &[u8]) -> Option<i32>
 }
 
 fn whole_offset(text: &[u8]) -> Option<i32>
-    ensures { result ≡ whole_of (Reader.offset_at text.now) }
+    ensures { result ≡ whole_of (Reader.read_offset text.now) }
 {
-    let (seconds, rest) = offset_at(text)?;
+    let (seconds, rest) = read_offset(text)?;
     if rest.is_empty() { Some(seconds) } else { None }
 }
 
@@ -98,13 +98,13 @@ fn date_time_of(given: bool, read: Option<(Stamp, &[u8])>) -> Option<DateTime>
 }
 
 // Reads `YYYY-MM-DD HH:MM:SS off`.
-fn dashed_date_time(given: bool, text: &[u8]) -> Option<DateTime>
+fn iso_date_time(given: bool, text: &[u8]) -> Option<DateTime>
     ensures fits { IfSome result
-        (λ dt. Form.dashed_date_time (with_given_offset given text.now) dt) }
+        (λ dt. Form.iso_date_time (with_given_offset given text.now) dt) }
     ensures none { IfNone result ((dt : DateTime)
-        → ¬ (Form.dashed_date_time (with_given_offset given text.now) dt)) }
+        → ¬ (Form.iso_date_time (with_given_offset given text.now) dt)) }
 {
-    let read = timed_dashed_at(text);
+    let read = read_iso_stamp(text);
     date_time_of(given, read)
 }
 
@@ -115,7 +115,7 @@ fn fraction_date_time(given: bool, text: &[u8]) -> Option<DateTime>
     ensures none { IfNone result ((dt : DateTime)
         → ¬ (Form.fraction_date_time (with_given_offset given text.now) dt)) }
 {
-    let read = timed_fraction_at(text);
+    let read = read_fraction_stamp(text);
     date_time_of(given, read)
 }
 
@@ -126,7 +126,7 @@ fn long_date_time(given: bool, text: &[u8]) -> Option<DateTime>
     ensures none { IfNone result ((dt : DateTime)
         → ¬ (Form.long_date_time (with_given_offset given text.now) dt)) }
 {
-    let read = timed_long_at(text);
+    let read = read_long_stamp(text);
     date_time_of(given, read)
 }
 
@@ -137,18 +137,18 @@ fn short_date_time(given: bool, text: &[u8]) -> Option<DateTime>
     ensures none { IfNone result ((dt : DateTime)
         → ¬ (Form.short_date_time (with_given_offset given text.now) dt)) }
 {
-    let read = timed_short_at(text);
+    let read = read_short_stamp(text);
     date_time_of(given, read)
 }
 
 // Reads `MM/DD/YYYY HH:MM:SS off`.
-fn slashed_date_time(given: bool, text: &[u8]) -> Option<DateTime>
+fn us_date_time(given: bool, text: &[u8]) -> Option<DateTime>
     ensures fits { IfSome result
-        (λ dt. Form.slashed_date_time (with_given_offset given text.now) dt) }
+        (λ dt. Form.us_date_time (with_given_offset given text.now) dt) }
     ensures none { IfNone result ((dt : DateTime)
-        → ¬ (Form.slashed_date_time (with_given_offset given text.now) dt)) }
+        → ¬ (Form.us_date_time (with_given_offset given text.now) dt)) }
 {
-    let read = timed_slashed_at(text);
+    let read = read_us_stamp(text);
     date_time_of(given, read)
 }
 
@@ -159,7 +159,7 @@ fn weekday_date_time(given: bool, text: &[u8]) -> Option<DateTime>
     ensures none { IfNone result ((dt : DateTime)
         → ¬ (Form.weekday_date_time (with_given_offset given text.now) dt)) }
 {
-    let read = timed_weekday_at(text);
+    let read = read_weekday_stamp(text);
     let stamp = forget_weekday(read);
     date_time_of(given, stamp)
 }
@@ -183,7 +183,7 @@ fn day_date_time(given: bool, text: &[u8]) -> Option<DateTime>
         Some(date_time) => Some(date_time),
         None => match short_date_time(given, text) {
             Some(date_time) => Some(date_time),
-            None => match slashed_date_time(given, text) {
+            None => match us_date_time(given, text) {
                 Some(date_time) => Some(date_time),
                 None => weekday_date_time(given, text),
             },
@@ -197,7 +197,7 @@ fn first_date_time(given: bool, text: &[u8]) -> Option<DateTime>
     ensures none { IfNone result ((dt : DateTime)
         → ¬ (date_time_forms (with_given_offset given text.now) dt)) }
 {
-    match dashed_date_time(given, text) {
+    match iso_date_time(given, text) {
         Some(date_time) => Some(date_time),
         None => match fraction_date_time(given, text) {
             Some(date_time) => Some(date_time),

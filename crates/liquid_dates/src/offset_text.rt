@@ -27,7 +27,7 @@ pub(crate) fn write_offset(
         ≡ string_bytes out.old ++ Spec.offset_of flags width offset date_time) }
 {
     let seconds = date_time.offset();
-    signed_hours(out, flags.filling, hours_width(width, offset), seconds)?;
+    write_signed_hours(out, flags.filling, hours_width(width, offset), seconds)?;
     offset_minutes(out, offset, seconds)
 }
 
@@ -42,8 +42,8 @@ fn hours_width(width: Option<usize>, offset: Offset) -> usize
     2 + width.unwrap_or(0).saturating_sub(length)
 }
 
-#[tactic(auto, unfolding(crate::specs::meaning::DirectiveText::signed_hours))]
-fn signed_hours(
+#[tactic(auto, unfolding(crate::specs::meaning::DirectiveText::write_signed_hours))]
+fn write_signed_hours(
     out: &mut String,
     filling: Filling,
     width: usize,
@@ -51,7 +51,7 @@ fn signed_hours(
 ) -> Result<(), AllocError>
     requires { IsOffsetSeconds seconds }
     ensures { OnOk result (string_bytes out.new
-        ≡ string_bytes out.old ++ Spec.signed_hours filling width seconds) }
+        ≡ string_bytes out.old ++ Spec.write_signed_hours filling width seconds) }
 {
     let hours = seconds.unsigned_abs() / 3600;
     match filling {

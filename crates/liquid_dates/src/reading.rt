@@ -29,9 +29,9 @@ pub(crate) fn after_byte(byte: u8, text: &[u8]) -> Option<&[u8]>
 }
 
 /// Reads two digits of a number below a limit.
-#[tactic(auto, unfolding(crate::specs::steps::DateReader::two_at))]
-pub(crate) fn two_at(limit: u8, text: &[u8]) -> Option<(u8, &[u8])>
-    ensures value { read_of result ≡ Reader.two_at limit text.now }
+#[tactic(auto, unfolding(crate::specs::steps::DateReader::read_two_digits))]
+pub(crate) fn read_two_digits(limit: u8, text: &[u8]) -> Option<(u8, &[u8])>
+    ensures value { read_of result ≡ Reader.read_two_digits limit text.now }
     ensures bound { IfSome result (λ p. p.0 < limit) }
 {
     let [tens, ones, rest @ ..] = text else {
@@ -48,28 +48,28 @@ pub(crate) fn two_at(limit: u8, text: &[u8]) -> Option<(u8, &[u8])>
 }
 
 // Reads four digits.
-#[tactic(auto, unfolding(crate::specs::steps::DateReader::four_at))]
-fn four_at(text: &[u8]) -> Option<(u16, &[u8])>
-    ensures value { read_of result ≡ Reader.four_at text.now }
+#[tactic(auto, unfolding(crate::specs::steps::DateReader::read_four_digits))]
+fn read_four_digits(text: &[u8]) -> Option<(u16, &[u8])>
+    ensures value { read_of result ≡ Reader.read_four_digits text.now }
     ensures bound { IfSome result (λ p. p.0 < 10000) }
 {
-    let (century, rest) = two_at(100, text)?;
-    let (year, rest) = two_at(100, rest)?;
+    let (century, rest) = read_two_digits(100, text)?;
+    let (year, rest) = read_two_digits(100, rest)?;
     Some((100 * u16::from(century) + u16::from(year), rest))
 }
 
 // Reads a year, which may follow a `-`.
-#[tactic(auto, unfolding(crate::specs::steps::DateReader::year_at))]
-pub(crate) fn year_at(text: &[u8]) -> Option<(i16, &[u8])>
-    ensures value { read_of result ≡ Reader.year_at text.now }
+#[tactic(auto, unfolding(crate::specs::steps::DateReader::read_year))]
+pub(crate) fn read_year(text: &[u8]) -> Option<(i16, &[u8])>
+    ensures value { read_of result ≡ Reader.read_year text.now }
 {
     match after_byte(b'-', text) {
         Some(following) => {
-            let (number, rest) = four_at(following)?;
+            let (number, rest) = read_four_digits(following)?;
             Some((negative(number), rest))
         }
         None => {
-            let (number, rest) = four_at(text)?;
+            let (number, rest) = read_four_digits(text)?;
             Some((not_negative(number), rest))
         }
     }
@@ -122,9 +122,9 @@ fn find_weekday(name: &[u8]) -> Option<u8>
 }
 
 // Reads the short name of a month.
-#[tactic(auto, unfolding(crate::specs::steps::DateReader::short_name_at))]
-pub(crate) fn short_month_at(text: &[u8]) -> Option<(u8, &[u8])>
-    ensures value { read_of result ≡ Reader.short_month_at text.now }
+#[tactic(auto, unfolding(crate::specs::steps::DateReader::read_short_name))]
+pub(crate) fn read_short_month(text: &[u8]) -> Option<(u8, &[u8])>
+    ensures value { read_of result ≡ Reader.read_short_month text.now }
     ensures bound { IfSome result (λ p. IsInRange 1 12 p.0) }
 {
     let [a, b, c, rest @ ..] = text else {
@@ -135,9 +135,9 @@ pub(crate) fn short_month_at(text: &[u8]) -> Option<(u8, &[u8])>
 }
 
 /// Reads the short name of a weekday.
-#[tactic(auto, unfolding(crate::specs::steps::DateReader::short_name_at))]
-pub(crate) fn weekday_at(text: &[u8]) -> Option<(u8, &[u8])>
-    ensures value { read_of result ≡ Reader.weekday_at text.now }
+#[tactic(auto, unfolding(crate::specs::steps::DateReader::read_short_name))]
+pub(crate) fn read_weekday(text: &[u8]) -> Option<(u8, &[u8])>
+    ensures value { read_of result ≡ Reader.read_weekday text.now }
 {
     let [a, b, c, rest @ ..] = text else {
         return None;
@@ -158,64 +158,64 @@ fn following_text<'a>(front: &[u8], text: &'a [u8]) -> Option<&'a [u8]>
 }
 
 // Reads the name of a month.
-#[tactic(auto, unfolding(crate::specs::steps::DateReader::month_at))]
-fn month_at(text: &[u8]) -> Option<(u8, &[u8])>
-    ensures value { read_of result ≡ Reader.month_at text.now }
+#[tactic(auto, unfolding(crate::specs::steps::DateReader::read_month))]
+fn read_month(text: &[u8]) -> Option<(u8, &[u8])>
+    ensures value { read_of result ≡ Reader.read_month text.now }
 {
-    let (month, rest) = short_month_at(text)?;
+    let (month, rest) = read_short_month(text)?;
     let name = month_name(month).as_bytes();
     let following = following_text(&name[3..], rest)?;
     Some((month, following))
 }
 
 /// Reads `YYYY-MM-DD`.
-#[tactic(auto, unfolding(crate::specs::steps::DateReader::dashed_at))]
-pub(crate) fn dashed_at(text: &[u8]) -> Option<(Ymd, &[u8])>
-    ensures value { option_map by_year (read_of result) ≡ Reader.dashed_at text.now }
+#[tactic(auto, unfolding(crate::specs::steps::DateReader::read_iso_date))]
+pub(crate) fn read_iso_date(text: &[u8]) -> Option<(Ymd, &[u8])>
+    ensures value { option_map by_year (read_of result) ≡ Reader.read_iso_date text.now }
 {
-    let (year, rest) = year_at(text)?;
+    let (year, rest) = read_year(text)?;
     let rest = after_byte(b'-', rest)?;
-    let (month, rest) = two_at(100, rest)?;
+    let (month, rest) = read_two_digits(100, rest)?;
     let rest = after_byte(b'-', rest)?;
-    let (day, rest) = two_at(100, rest)?;
+    let (day, rest) = read_two_digits(100, rest)?;
     Some((Ymd { year, month, day }, rest))
 }
 
 /// Reads `DD Month YYYY`.
-#[tactic(auto, unfolding(crate::specs::steps::DateReader::long_at))]
-pub(crate) fn long_at(text: &[u8]) -> Option<(Ymd, &[u8])>
-    ensures value { option_map by_day (read_of result) ≡ Reader.long_at text.now }
+#[tactic(auto, unfolding(crate::specs::steps::DateReader::read_long_date))]
+pub(crate) fn read_long_date(text: &[u8]) -> Option<(Ymd, &[u8])>
+    ensures value { option_map by_day (read_of result) ≡ Reader.read_long_date text.now }
 {
-    let (day, rest) = two_at(100, text)?;
+    let (day, rest) = read_two_digits(100, text)?;
     let rest = after_byte(b' ', rest)?;
-    let (month, rest) = month_at(rest)?;
+    let (month, rest) = read_month(rest)?;
     let rest = after_byte(b' ', rest)?;
-    let (year, rest) = year_at(rest)?;
+    let (year, rest) = read_year(rest)?;
     Some((Ymd { year, month, day }, rest))
 }
 
 /// Reads `DD Mon YYYY`.
-#[tactic(auto, unfolding(crate::specs::steps::DateReader::short_at))]
-pub(crate) fn short_at(text: &[u8]) -> Option<(Ymd, &[u8])>
-    ensures value { option_map by_day (read_of result) ≡ Reader.short_at text.now }
+#[tactic(auto, unfolding(crate::specs::steps::DateReader::read_short_date))]
+pub(crate) fn read_short_date(text: &[u8]) -> Option<(Ymd, &[u8])>
+    ensures value { option_map by_day (read_of result) ≡ Reader.read_short_date text.now }
 {
-    let (day, rest) = two_at(100, text)?;
+    let (day, rest) = read_two_digits(100, text)?;
     let rest = after_byte(b' ', rest)?;
-    let (month, rest) = short_month_at(rest)?;
+    let (month, rest) = read_short_month(rest)?;
     let rest = after_byte(b' ', rest)?;
-    let (year, rest) = year_at(rest)?;
+    let (year, rest) = read_year(rest)?;
     Some((Ymd { year, month, day }, rest))
 }
 
 /// Reads `MM/DD/YYYY`.
-#[tactic(auto, unfolding(crate::specs::steps::DateReader::slashed_at))]
-pub(crate) fn slashed_at(text: &[u8]) -> Option<(Ymd, &[u8])>
-    ensures value { option_map by_month (read_of result) ≡ Reader.slashed_at text.now }
+#[tactic(auto, unfolding(crate::specs::steps::DateReader::read_us_date))]
+pub(crate) fn read_us_date(text: &[u8]) -> Option<(Ymd, &[u8])>
+    ensures value { option_map by_month (read_of result) ≡ Reader.read_us_date text.now }
 {
-    let (month, rest) = two_at(100, text)?;
+    let (month, rest) = read_two_digits(100, text)?;
     let rest = after_byte(b'/', rest)?;
-    let (day, rest) = two_at(100, rest)?;
+    let (day, rest) = read_two_digits(100, rest)?;
     let rest = after_byte(b'/', rest)?;
-    let (year, rest) = year_at(rest)?;
+    let (year, rest) = read_year(rest)?;
     Some((Ymd { year, month, day }, rest))
 }

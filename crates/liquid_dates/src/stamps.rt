@@ -7,8 +7,8 @@ ghost use Rattle.liquid_dates.specs.steps.DateReader.{stamp_by_day, stamp_by_mon
 
 use crate::flags::is_digit;
 use crate::reading::{
-    Ymd, after_byte, dashed_at, long_at, short_at, short_month_at, slashed_at, two_at, weekday_at,
-    year_at,
+    Ymd, after_byte, read_iso_date, read_long_date, read_short_date, read_short_month,
+    read_two_digits, read_us_date, read_weekday, read_year,
 };
 
 /// A time of day that a text writes, to the second.
@@ -28,15 +28,15 @@ pub(crate) struct Stamp {
 }
 
 // Reads `HH:MM:SS`.
-#[tactic(auto, unfolding(crate::specs::steps::DateReader::clock_at))]
-fn clock_at(text: &[u8]) -> Option<(Clock, &[u8])>
-    ensures value { option_map by_clock (read_of result) ≡ Reader.clock_at text.now }
+#[tactic(auto, unfolding(crate::specs::steps::DateReader::read_clock))]
+fn read_clock(text: &[u8]) -> Option<(Clock, &[u8])>
+    ensures value { option_map by_clock (read_of result) ≡ Reader.read_clock text.now }
 {
-    let (hour, rest) = two_at(24, text)?;
+    let (hour, rest) = read_two_digits(24, text)?;
     let rest = after_byte(b':', rest)?;
-    let (minute, rest) = two_at(60, rest)?;
+    let (minute, rest) = read_two_digits(60, rest)?;
     let rest = after_byte(b':', rest)?;
-    let (second, rest) = two_at(60, rest)?;
+    let (second, rest) = read_two_digits(60, rest)?;
     Some((
         Clock {
             hour,
@@ -48,29 +48,29 @@ fn clock_at(text: &[u8]) -> Option<(Clock, &[u8])>
 }
 
 // Reads an offset after its sign, in seconds.
-#[tactic(auto, unfolding(crate::specs::steps::DateReader::hours_at))]
-fn hours_at(text: &[u8]) -> Option<(u32, &[u8])>
-    ensures value { read_of result ≡ Reader.hours_at text.now }
+#[tactic(auto, unfolding(crate::specs::steps::DateReader::read_hours))]
+fn read_hours(text: &[u8]) -> Option<(u32, &[u8])>
+    ensures value { read_of result ≡ Reader.read_hours text.now }
     ensures bound { IfSome result (λ p. p.0 < 400000) }
 {
-    let (hours, rest) = two_at(100, text)?;
-    let (minutes, rest) = two_at(60, rest)?;
+    let (hours, rest) = read_two_digits(100, text)?;
+    let (minutes, rest) = read_two_digits(60, rest)?;
     Some((u32::from(hours) * 3600 + u32::from(minutes) * 60, rest))
 }
 
 /// Reads an offset, in seconds.
-#[tactic(auto, unfolding(crate::specs::steps::DateReader::offset_at))]
-pub(crate) fn offset_at(text: &[u8]) -> Option<(i32, &[u8])>
-    ensures value { read_of result ≡ Reader.offset_at text.now }
+#[tactic(auto, unfolding(crate::specs::steps::DateReader::read_offset))]
+pub(crate) fn read_offset(text: &[u8]) -> Option<(i32, &[u8])>
+    ensures value { read_of result ≡ Reader.read_offset text.now }
 {
     match after_byte(b'+', text) {
         Some(following) => {
-            let (seconds, rest) = hours_at(following)?;
+            let (seconds, rest) = read_hours(following)?;
             Some((ahead(seconds), rest))
         }
         None => {
             let following = after_byte(b'-', text)?;
-            let (seconds, rest) = hours_at(following)?;
+            let (seconds, rest) = read_hours(following)?;
             Some((after_utc(seconds), rest))
         }
     }
@@ -91,18 +91,18 @@ fn after_utc(seconds: u32) -> i32
 }
 
 // Reads a day of one or two digits.
-#[tactic(auto, unfolding(crate::specs::steps::DateReader::short_day_at))]
-fn short_day_at(text: &[u8]) -> Option<(u8, &[u8])>
-    ensures value { read_of result ≡ Reader.short_day_at text.now }
+#[tactic(auto, unfolding(crate::specs::steps::DateReader::read_short_day))]
+fn read_short_day(text: &[u8]) -> Option<(u8, &[u8])>
+    ensures value { read_of result ≡ Reader.read_short_day text.now }
 {
-    match two_at(100, text) {
+    match read_two_digits(100, text) {
         Some((day, rest)) => Some((day, rest)),
-        None => one_digit_at(text),
+        None => read_one_digit(text),
     }
 }
 
-fn one_digit_at(text: &[u8]) -> Option<(u8, &[u8])>
-    ensures value { read_of result ≡ Reader.one_digit_at text.now }
+fn read_one_digit(text: &[u8]) -> Option<(u8, &[u8])>
+    ensures value { read_of result ≡ Reader.read_one_digit text.now }
 {
     let [digit, rest @ ..] = text else {
         return None;
@@ -114,14 +114,14 @@ fn one_digit_at(text: &[u8]) -> Option<(u8, &[u8])>
 }
 
 /// Reads `YYYY-MM-DD HH:MM:SS`.
-#[tactic(auto, unfolding(crate::specs::steps::DateReader::timed_dashed_at))]
-pub(crate) fn timed_dashed_at(text: &[u8]) -> Option<(Stamp, &[u8])>
-    ensures value { option_map stamp_by_year (read_of result) ≡ Reader.timed_dashed_at text.now }
+#[tactic(auto, unfolding(crate::specs::steps::DateReader::read_iso_stamp))]
+pub(crate) fn read_iso_stamp(text: &[u8]) -> Option<(Stamp, &[u8])>
+    ensures value { option_map stamp_by_year (read_of result) ≡ Reader.read_iso_stamp text.now }
     ensures whole { IfSome result (λ p. p.0.nanosecond ≡ 0) }
 {
-    let (date, rest) = dashed_at(text)?;
+    let (date, rest) = read_iso_date(text)?;
     let rest = after_byte(b' ', rest)?;
-    let (clock, rest) = clock_at(rest)?;
+    let (clock, rest) = read_clock(rest)?;
     Some((whole_second(date, clock), rest))
 }
 
@@ -138,52 +138,52 @@ fn whole_second(date: Ymd, clock: Clock) -> Stamp
 }
 
 /// Reads `DD Month YYYY HH:MM:SS`.
-#[tactic(auto, unfolding(crate::specs::steps::DateReader::timed_long_at))]
-pub(crate) fn timed_long_at(text: &[u8]) -> Option<(Stamp, &[u8])>
-    ensures value { option_map stamp_by_day (read_of result) ≡ Reader.timed_long_at text.now }
+#[tactic(auto, unfolding(crate::specs::steps::DateReader::read_long_stamp))]
+pub(crate) fn read_long_stamp(text: &[u8]) -> Option<(Stamp, &[u8])>
+    ensures value { option_map stamp_by_day (read_of result) ≡ Reader.read_long_stamp text.now }
     ensures whole { IfSome result (λ p. p.0.nanosecond ≡ 0) }
 {
-    let (date, rest) = long_at(text)?;
+    let (date, rest) = read_long_date(text)?;
     let rest = after_byte(b' ', rest)?;
-    let (clock, rest) = clock_at(rest)?;
+    let (clock, rest) = read_clock(rest)?;
     Some((whole_second(date, clock), rest))
 }
 
 /// Reads `DD Mon YYYY HH:MM:SS`.
-#[tactic(auto, unfolding(crate::specs::steps::DateReader::timed_short_at))]
-pub(crate) fn timed_short_at(text: &[u8]) -> Option<(Stamp, &[u8])>
-    ensures value { option_map stamp_by_day (read_of result) ≡ Reader.timed_short_at text.now }
+#[tactic(auto, unfolding(crate::specs::steps::DateReader::read_short_stamp))]
+pub(crate) fn read_short_stamp(text: &[u8]) -> Option<(Stamp, &[u8])>
+    ensures value { option_map stamp_by_day (read_of result) ≡ Reader.read_short_stamp text.now }
     ensures whole { IfSome result (λ p. p.0.nanosecond ≡ 0) }
 {
-    let (date, rest) = short_at(text)?;
+    let (date, rest) = read_short_date(text)?;
     let rest = after_byte(b' ', rest)?;
-    let (clock, rest) = clock_at(rest)?;
+    let (clock, rest) = read_clock(rest)?;
     Some((whole_second(date, clock), rest))
 }
 
 /// Reads `MM/DD/YYYY HH:MM:SS`.
-#[tactic(auto, unfolding(crate::specs::steps::DateReader::timed_slashed_at))]
-pub(crate) fn timed_slashed_at(text: &[u8]) -> Option<(Stamp, &[u8])>
-    ensures value { option_map stamp_by_month (read_of result) ≡ Reader.timed_slashed_at text.now }
+#[tactic(auto, unfolding(crate::specs::steps::DateReader::read_us_stamp))]
+pub(crate) fn read_us_stamp(text: &[u8]) -> Option<(Stamp, &[u8])>
+    ensures value { option_map stamp_by_month (read_of result) ≡ Reader.read_us_stamp text.now }
     ensures whole { IfSome result (λ p. p.0.nanosecond ≡ 0) }
 {
-    let (date, rest) = slashed_at(text)?;
+    let (date, rest) = read_us_date(text)?;
     let rest = after_byte(b' ', rest)?;
-    let (clock, rest) = clock_at(rest)?;
+    let (clock, rest) = read_clock(rest)?;
     Some((whole_second(date, clock), rest))
 }
 
 /// Reads `YYYY-MM-DD HH:MM:SS.fraction`.
-#[tactic(auto, unfolding(crate::specs::steps::DateReader::timed_fraction_at))]
-pub(crate) fn timed_fraction_at(text: &[u8]) -> Option<(Stamp, &[u8])>
+#[tactic(auto, unfolding(crate::specs::steps::DateReader::read_fraction_stamp))]
+pub(crate) fn read_fraction_stamp(text: &[u8]) -> Option<(Stamp, &[u8])>
     ensures value { option_map stamp_by_fraction (read_of result)
-        ≡ Reader.timed_fraction_at text.now }
+        ≡ Reader.read_fraction_stamp text.now }
 {
-    let (date, rest) = dashed_at(text)?;
+    let (date, rest) = read_iso_date(text)?;
     let rest = after_byte(b' ', rest)?;
-    let (clock, rest) = clock_at(rest)?;
+    let (clock, rest) = read_clock(rest)?;
     let rest = after_byte(b'.', rest)?;
-    let (nanosecond, rest) = fraction_at(rest)?;
+    let (nanosecond, rest) = read_fraction(rest)?;
     let stamp = Stamp {
         date,
         clock,
@@ -193,21 +193,21 @@ pub(crate) fn timed_fraction_at(text: &[u8]) -> Option<(Stamp, &[u8])>
 }
 
 /// Reads `Www Mon D HH:MM:SS YYYY`, with the weekday.
-#[tactic(auto, unfolding(crate::specs::steps::DateReader::timed_weekday_at))]
-pub(crate) fn timed_weekday_at(text: &[u8]) -> Option<((u8, Stamp), &[u8])>
+#[tactic(auto, unfolding(crate::specs::steps::DateReader::read_weekday_stamp))]
+pub(crate) fn read_weekday_stamp(text: &[u8]) -> Option<((u8, Stamp), &[u8])>
     ensures value { option_map stamp_by_weekday (read_of result)
-        ≡ Reader.timed_weekday_at text.now }
+        ≡ Reader.read_weekday_stamp text.now }
     ensures whole { IfSome result (λ p. p.0.1.nanosecond ≡ 0) }
 {
-    let (weekday, rest) = weekday_at(text)?;
+    let (weekday, rest) = read_weekday(text)?;
     let rest = after_byte(b' ', rest)?;
-    let (month, rest) = short_month_at(rest)?;
+    let (month, rest) = read_short_month(rest)?;
     let rest = after_byte(b' ', rest)?;
-    let (day, rest) = short_day_at(rest)?;
+    let (day, rest) = read_short_day(rest)?;
     let rest = after_byte(b' ', rest)?;
-    let (clock, rest) = clock_at(rest)?;
+    let (clock, rest) = read_clock(rest)?;
     let rest = after_byte(b' ', rest)?;
-    let (year, rest) = year_at(rest)?;
+    let (year, rest) = read_year(rest)?;
     let stamp = whole_second(Ymd { year, month, day }, clock);
     Some(((weekday, stamp), rest))
 }
@@ -234,9 +234,9 @@ fn digits_from(text: &[u8]) -> (usize, u64, &[u8])
 }
 
 // Reads one to nine digits of a fraction, in nanoseconds.
-#[tactic(auto, unfolding(crate::specs::steps::DateReader::fraction_at))]
-fn fraction_at(text: &[u8]) -> Option<(u32, &[u8])>
-    ensures value { read_of result ≡ Reader.fraction_at text.now }
+#[tactic(auto, unfolding(crate::specs::steps::DateReader::read_fraction))]
+fn read_fraction(text: &[u8]) -> Option<(u32, &[u8])>
+    ensures value { read_of result ≡ Reader.read_fraction text.now }
 {
     let (count, number, rest) = digits_from(text);
     if count < 1 || count > 9 {

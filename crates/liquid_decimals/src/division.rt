@@ -1,8 +1,10 @@
 //! Quotients of decimals.
-ghost use Rattle.std.specs.Prelude.{◌≡◌, ◌≢◌, ◌≤◌, ◌<◌, ◌+◌, ◌-◌, ◌*◌, ◌^◌, Some, None, pos, neg_ℤ, ◌<ℤ◌, ◌≤ℤ◌, nat_lt, unsigned_abs, option_map, if◌then◌else◌};
+ghost use Rattle.std.specs.Prelude.{◌≡◌, ◌≢◌, ◌≤◌, ◌<◌, ◌+◌, ◌-◌, ◌*◌, ◌^◌, Some};
+ghost use Rattle.std.specs.Prelude.{None, pos, neg_ℤ, ◌<ℤ◌, ◌≤ℤ◌, nat_lt, unsigned_abs, option_map, if◌then◌else◌};
 ghost use Rattle.std.specs.Int.{int_div_euclid};
 ghost use Rattle.liquid_decimals.specs.meaning.Dec.{dec, limited, signed};
-ghost use Rattle.liquid_decimals.specs.meaning.Rounding.{ceil, differ_in_sign, divided_by, floor, loses_digits, nearest, round, round_to_power};
+ghost use Rattle.liquid_decimals.specs.meaning.Rounding.{ceil, differ_in_sign, divided_by, floor};
+ghost use Rattle.liquid_decimals.specs.meaning.Rounding.{loses_digits, nearest, round, round_to_power};
 
 use crate::decimal::Decimal;
 use crate::parts::{GREATEST_SCALE, decimal_from};

@@ -26,7 +26,7 @@ pub fn find_stop(s: &str) -> Option<Stop>
 fn expression_stop(s: &str) -> Option<Stop>
     ensures { IsFarthest spec.ExpressionMisses s.now result }
 {
-    match opened(s, b'{') {
+    match after_braces(s, b'{') {
         None => None,
         Some(start) => closed_chain_stop(start),
     }
@@ -46,7 +46,7 @@ fn closed_chain_stop(s: &str) -> Option<Stop>
 fn tag_stop(s: &str) -> Option<Stop>
     ensures { IsFarthest spec.TagMisses s.now result }
 {
-    match opened(s, b'%') {
+    match after_braces(s, b'%') {
         None => None,
         Some(start) => named_stop(start),
     }
@@ -64,7 +64,7 @@ fn named_stop(s: &str) -> Option<Stop>
 
 /// Returns what follows the braces, a dash if there is one, and white space.
 #[tactic(auto, unfolding(crate::specs::steps::Opened::opened, liquid_grammar::specs::steps::Steps::braces))]
-fn opened(s: &str, kind: u8) -> Option<&str>
+fn after_braces(s: &str, kind: u8) -> Option<&str>
     requires { kind < 128 }
     ensures { Leaves result (read.opened kind s.now) }
 {

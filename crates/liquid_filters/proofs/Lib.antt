@@ -1,3 +1,16 @@
 pub mod ArgumentSteps
 pub mod DateSteps
 pub mod Registering
+pub mod OwnItems
+pub mod SliceLemmas
+pub mod FirstWords
+pub mod DivisionLemmas
+pub mod RoundingLemmas
+pub mod NearestLemmas
+pub mod ListSteps
+pub mod DistinctLemmas
+pub mod LastLemmas
+pub mod DecimalSumLemmas
+pub mod StableOrder
+pub mod KeyOrder
+pub mod NumberOrder

@@ -1,1 +1,3 @@
 pub mod Dates
+pub mod string
+pub mod number

@@ -7,3 +7,8 @@ pub mod Json
 pub mod Dates
 pub mod Standard
 pub mod Registered
+pub mod value
+pub mod string
+pub mod number
+pub mod list
+pub mod sort

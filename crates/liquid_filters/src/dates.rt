@@ -7,8 +7,8 @@ ghost use Rattle.liquid_value.specs.meaning.Tree.{scalar};
 ghost use Rattle.liquid_value.specs.meaning.View.{view as tree_of};
 ghost use Rattle.liquid_filters.specs.meaning.Dates.{dated, formatted, printed, printed_by};
 
+use crate::value::errors::unexpected_arguments_error;
 use filter_dates::{moment_of, pattern_error};
-use filter_values::errors::unexpected_arguments;
 use liquid_dates::DateTime;
 use liquid_error::Error;
 use liquid_scalar::ScalarOf;
@@ -30,7 +30,7 @@ pub fn date(
             let pattern = pattern.as_view().to_kstr(alloc)?;
             print(alloc, now, input, pattern.as_str())
         }
-        _ => Err(unexpected_arguments(alloc)),
+        _ => Err(unexpected_arguments_error(alloc)),
     }
 }
 

@@ -10,13 +10,18 @@ pub mod dates;
 pub mod json_text;
 pub mod kinds;
 pub mod laws;
+pub mod list;
 pub mod list_kinds;
+pub mod number;
 pub mod number_kinds;
 mod parameters;
 pub mod plugin;
 pub mod registry;
 pub mod row;
+pub mod sort;
+pub mod string;
 pub mod text_kinds;
+pub mod value;
 pub mod value_kinds;
 pub mod values;
 

@@ -2,14 +2,14 @@
 ghost use Rattle.liquid_filters.specs.meaning.Standard.{list_sense};
 
 use crate::arguments::CallArguments;
+use crate::list::choices::{compact, keep_where, map, uniq};
+use crate::list::lists::{concat, first, join, last, reverse};
+use crate::list::searches::{find, find_index, has, reject};
+use crate::list::sums::sum;
 use crate::parameters::{ARRAY, NAME, NONE, PROPERTY, SEPARATOR, WHERE};
 use crate::row::{FilterKind, FilterRow};
-use filter_lists::choices::{compact, keep_where, map, uniq};
-use filter_lists::lists::{concat, first, join, last, reverse};
-use filter_lists::searches::{find, find_index, has, reject};
-use filter_lists::sums::sum;
-use filter_sorting::numbers::sort_numeric;
-use filter_sorting::order::{sort, sort_natural};
+use crate::sort::numbers::sort_numeric;
+use crate::sort::order::{sort, sort_natural};
 use liquid_error::Error;
 use liquid_value::Value;
 use std::alloc::Global;

@@ -2,11 +2,11 @@
 ghost use Rattle.liquid_filters.specs.meaning.Standard.{number_sense};
 
 use crate::arguments::CallArguments;
+use crate::number::arithmetic::{at_least, at_most, divided_by, minus, modulo, plus, times};
+use crate::number::single::{abs, ceil, floor, round};
+use crate::number::units::{from_minor, to_minor, written_decimal};
 use crate::parameters::{DECIMAL, DIGITS, DIVISOR, NONE, NUMBER, UNIT};
 use crate::row::{FilterKind, FilterRow};
-use filter_numbers::arithmetic::{at_least, at_most, divided_by, minus, modulo, plus, times};
-use filter_numbers::single::{abs, ceil, floor, round};
-use filter_numbers::units::{from_minor, to_minor, written_decimal};
 use liquid_error::Error;
 use liquid_value::Value;
 use std::alloc::Global;

@@ -15,7 +15,7 @@ ghost use Rattle.liquid_plugins.specs.meaning.ExpressionOf.{expression_of};
 
 use crate::call::FilterCall;
 use crate::row::FilterKind;
-use filter_values::errors::unexpected_arguments;
+use crate::value::errors::unexpected_arguments_error;
 use liquid_error::Error;
 use liquid_plugins::{
     Expression, FilterArguments, FilterReflection, ParameterReflection, ParseFilter,
@@ -65,7 +65,7 @@ impl<K: FilterKind> ParseFilter for FilterPlugin<K> {
                 keyword: owned_keywords(alloc, arguments.keyword)?,
             })
         } else {
-            Err(unexpected_arguments(alloc))
+            Err(unexpected_arguments_error(alloc))
         }
     }
 }

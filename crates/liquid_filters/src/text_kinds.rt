@@ -4,7 +4,7 @@ ghost use Rattle.liquid_filters.specs.meaning.Standard.{text_sense};
 use crate::arguments::CallArguments;
 use crate::parameters::{CUT, LAST_REPLACEMENT, NONE, REPLACEMENT, SLICE, TEXT};
 use crate::row::{FilterKind, FilterRow};
-use filter_strings::{
+use crate::string::{
     append, base64_decode, base64_encode, base64_url_safe_decode, base64_url_safe_encode,
     capitalize, downcase, escape, escape_once, lstrip, newline_to_br, prepend, remove,
     remove_first, remove_last, replace, replace_first, replace_last, rstrip, slice, split, strip,

@@ -6,8 +6,8 @@ ghost use Rattle.liquid_filters.specs.meaning.Given.{given};
 ghost use Rattle.liquid_filters.specs.meaning.Values.{allows_false, defaulted, is_false, is_missing, size};
 
 use crate::arguments::CallArguments;
-use filter_values::errors::unexpected_arguments;
-use filter_values::parts::{is_truthy, size_of};
+use crate::value::errors::unexpected_arguments_error;
+use crate::value::parts::{is_truthy, size_of};
 use liquid_error::Error;
 use liquid_scalar::ScalarOf;
 use liquid_value::{State, Value};
@@ -30,7 +30,7 @@ pub fn default(alloc: Global, input: &Value, arguments: &CallArguments<'_>) -> R
         } else {
             Ok(input.clone()?)
         },
-        _ => Err(unexpected_arguments(alloc)),
+        _ => Err(unexpected_arguments_error(alloc)),
     }
 }
 

@@ -9,7 +9,7 @@ ghost use Rattle.liquid_grammar.specs.steps.TokenSteps as read;
 use crate::fault::{Fault, FaultKind, literal_fault};
 use crate::head::{Head, read_head};
 use crate::text::{eat, skip_white};
-use crate::value::named;
+use crate::value::match_named_index;
 
 /// The greatest number of brackets that may be open at once.
 pub const BRACKET_LIMIT: usize = 100;
@@ -32,7 +32,7 @@ pub(crate) struct Open<'a> {
 }
 
 /// Matches an index in brackets. Returns its first fault and what follows it.
-pub(crate) fn bracketed<'a>(s: &'a str) -> Option<(Option<Fault<'a>>, &'a str)>
+pub(crate) fn match_bracket<'a>(s: &'a str) -> Option<(Option<Fault<'a>>, &'a str)>
     ensures value { Scans (index_fault 0) result (bracket_index s.now) }
     ensures shorter { IfSome result (λ x. length x.1.now < length s.now) }
 {
@@ -112,7 +112,7 @@ fn at_index<'a>(state: Open<'a>) -> Open<'a>
     ensures whole { result.depth ≡ 0 → result.awaits ≡ Await.Index }
 {
     let rest = state.rest;
-    match named(rest) {
+    match match_named_index(rest) {
         Some(after) => Open {
             rest: after,
             ..state

@@ -65,14 +65,14 @@ pub fn next_element<'a>(text: &'a str) -> Option<(Element<'a>, &'a str)>
     }
     let (front, rest) = text.split_at(raw_len(text));
     if front.is_empty() {
-        Some(marked(text))
+        Some(opener_element(text))
     } else {
         Some((Element::Raw(front), rest))
     }
 }
 
 #[inline(always)]
-fn marked<'a>(s: &'a str) -> (Element<'a>, &'a str)
+fn opener_element<'a>(s: &'a str) -> (Element<'a>, &'a str)
     requires { Opens s.now }
     ensures { (e : spec.Element) × IsElement s.now result.1.now e × Means result.0 e }
 {

@@ -32,7 +32,7 @@ pub(crate) fn chain_and_kind<'a>(s: &'a str) -> Option<(TokenKind<'a>, Option<Fa
 {
     let (kind, first, rest) = value_and_kind(s)?;
     if begins_filter(rest) {
-        Some(filtered(kind, first, rest))
+        Some(match_filters(kind, first, rest))
     } else {
         Some((kind, first, rest))
     }
@@ -43,7 +43,7 @@ pub(crate) fn chain_and_kind<'a>(s: &'a str) -> Option<(TokenKind<'a>, Option<Fa
 ///
 /// It is a function of its own, so that no room is made for filters if a value has none.
 #[inline(never)]
-fn filtered<'a>(
+fn match_filters<'a>(
     kind: TokenKind<'a>,
     first: Option<Fault<'a>>,
     rest: &'a str,

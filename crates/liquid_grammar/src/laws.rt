@@ -75,7 +75,8 @@ pub fn no_index_at_close_bracket()
 pub fn parts_are_matches()
     ensures chains { (s rest : List ℕ) (chain : Chain) → ChainRule s rest chain → IsChain s rest chain }
     ensures expressions { (s rest : List ℕ) (chain : Chain) → ExpressionRule s rest chain → ChainRule chain.place chain.following chain }
-    ensures tags { (s rest : List ℕ) (tag : Tag) → TagRule s rest tag → Repeated (White ▷ TokenRule) tag.1.place tag.1.following tag.1.what }
+    ensures tags { (s rest : List ℕ) (tag : Tag) → TagRule s rest tag
+        → Repeated (White ▷ TokenRule) tag.1.place tag.1.following tag.1.what }
 {}
 
 /// Each part of an expression or a tag is a slice of the text, and lies between characters.

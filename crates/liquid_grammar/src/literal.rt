@@ -32,7 +32,7 @@ pub(crate) fn text_or_number(s: &str) -> Option<(Literal, &str)>
 {
     let first = byte_at(s.as_bytes(), 0);
     if first == b'\'' || first == b'"' {
-        let (text, rest) = quoted(s, first)?;
+        let (text, rest) = read_quoted(s, first)?;
         Some((Literal::Text(text), rest))
     } else {
         number(s)
@@ -57,7 +57,7 @@ pub(crate) fn literal_word(word: &str) -> Option<Literal<'_>>
 
 /// Returns the text between two quotes.
 #[tactic(auto, unfolding(crate::specs::steps::TokenSteps::quoted))]
-fn quoted(s: &str, quote: u8) -> Option<(&str, &str)>
+fn read_quoted(s: &str, quote: u8) -> Option<(&str, &str)>
     requires { quote < 128 }
     ensures value { Splits result (read.quoted quote s.now) }
     ensures shorter { IfSome result (λ x. length x.1.now < length s.now) }

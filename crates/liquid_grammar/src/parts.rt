@@ -11,7 +11,7 @@ ghost use Rattle.liquid_grammar.specs.meaning.Parts.{HasParts, IsToken, OpensExp
 ghost use Rattle.liquid_grammar.specs.meaning.Parts.{IsStep, Unclosed, step_rest};
 ghost use Rattle.liquid_grammar.specs.steps.Heads.{HasColon};
 
-use crate::bracket::{self, bracketed};
+use crate::bracket::{self, match_bracket};
 use crate::bytes::{begins_index, begins_value, byte_at};
 use crate::filter::{chain_and_kind, following};
 use crate::head::{Head, head_of_word, read_head};
@@ -21,7 +21,7 @@ use crate::name::identifier;
 use crate::opener::{braces, closer};
 use crate::text::{before, eat, skip_white};
 use crate::token::{range_parts, symbol};
-use crate::value::named_index;
+use crate::value::read_named_index;
 
 /// How an index begins.
 #[derive(Clone, Copy, Debug, PartialEq, Eq)]
@@ -129,10 +129,10 @@ pub fn next_index<'a>(s: &'a str, depth: usize) -> Option<(IndexStart<'a>, &'a s
     if !begins_index(byte_at(s.as_bytes(), 0)) {
         return None;
     }
-    match named_index(s) {
+    match read_named_index(s) {
         Some((name, rest)) => Some((IndexStart::Named(name), rest)),
         None if depth == 0 => {
-            let _ = bracketed(s)?;
+            let _ = match_bracket(s)?;
             Some((IndexStart::Bracket, bracket::open_bracket(s)?))
         }
         // Inside brackets, a bracket here begins an index: otherwise nothing would close the open ones.

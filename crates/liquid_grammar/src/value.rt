@@ -8,7 +8,7 @@ ghost use Rattle.liquid_grammar.specs.steps.Steps.{Splits, Leaves};
 ghost use Rattle.liquid_grammar.specs.steps.Steps as step;
 ghost use Rattle.liquid_grammar.specs.steps.TokenSteps as read;
 
-use crate::bracket::bracketed;
+use crate::bracket::match_bracket;
 use crate::bytes::{begins_index, byte_at};
 use crate::fault::{Fault, literal_fault};
 use crate::head::{Head, read_head};
@@ -41,7 +41,7 @@ pub(crate) fn value_and_kind<'a>(s: &'a str) -> Option<(TokenKind<'a>, Option<Fa
         )),
         (Head::Name(name), rest) => {
             if begins_index(byte_at(rest.as_bytes(), 0)) {
-                Some(indexed(name, rest))
+                Some(match_indexes(name, rest))
             } else {
                 Some((TokenKind::Identifier(name), None, rest))
             }
@@ -54,7 +54,7 @@ pub(crate) fn value_and_kind<'a>(s: &'a str) -> Option<(TokenKind<'a>, Option<Fa
 ///
 /// It is a function of its own, so that no room is made for indexes if a name has none.
 #[inline(never)]
-fn indexed<'a>(name: &'a str, rest: &'a str) -> (TokenKind<'a>, Option<Fault<'a>>, &'a str)
+fn match_indexes<'a>(name: &'a str, rest: &'a str) -> (TokenKind<'a>, Option<Fault<'a>>, &'a str)
     ensures kind { (s : List ℕ) → None ≡ read.literal s → Some (name.now, rest.now) ≡ step.name s
         → FindsValueKind (Some (result.0, result.2)) (read.value s) }
     ensures value { (s : List ℕ) → None ≡ read.literal s → Some (name.now, rest.now) ≡ step.name s
@@ -96,9 +96,9 @@ pub(crate) fn index<'a>(s: &'a str) -> Option<(Option<Fault<'a>>, &'a str)>
     ensures shorter { IfSome result (λ x. length x.1.now < length s.now) }
 {
     if begins_index(byte_at(s.as_bytes(), 0)) {
-        match named(s) {
+        match match_named_index(s) {
             Some(rest) => Some((None, rest)),
-            None => bracketed(s),
+            None => match_bracket(s),
         }
     } else {
         None
@@ -106,16 +106,16 @@ pub(crate) fn index<'a>(s: &'a str) -> Option<(Option<Fault<'a>>, &'a str)>
 }
 
 /// Returns what follows `.` and an identifier.
-pub(crate) fn named(s: &str) -> Option<&str>
+pub(crate) fn match_named_index(s: &str) -> Option<&str>
     ensures value { Leaves result (read.named s.now) }
     ensures shorter { IfSome result (λ rest. length rest.now < length s.now) }
 {
-    Some(named_index(s)?.1)
+    Some(read_named_index(s)?.1)
 }
 
 /// Returns the identifier after `.`, and what follows it.
 #[tactic(auto, unfolding(crate::specs::steps::TokenSteps::named))]
-pub(crate) fn named_index(s: &str) -> Option<(&str, &str)>
+pub(crate) fn read_named_index(s: &str) -> Option<(&str, &str)>
     ensures value { Splits result (read.named s.now) }
     ensures shorter { IfSome result (λ x. length x.1.now < length s.now) }
 {

@@ -1,1 +1,13 @@
 pub mod MomentSteps
+pub mod NamedSteps
+pub mod RunLemmas
+pub mod EscapeLemmas
+pub mod IndexLemmas
+pub mod NumeralLemmas
+pub mod TypographyLemmas
+pub mod AsciiLemmas
+pub mod PartLemmas
+pub mod CutLemmas
+pub mod ItemLemmas
+pub mod SeriesLemmas
+pub mod GroupLemmas

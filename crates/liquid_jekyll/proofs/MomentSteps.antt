@@ -1,5 +1,5 @@
 -- What is written for a moment.
-use Rattle.std.proofs.Common.{◌≡◌, inl, inr, ℕ, List, Bool, false, Option, sym, ap, ◌∙◌}
+use Rattle.std.proofs.Common.{◌≡◌, inl, inr, ℕ, List, false, Option, sym, ap, ◌∙◌}
 use Rattle.liquid_dates.specs.declared.date_time.DateTime.{DateTime}
 use Rattle.liquid_dates.specs.meaning.Instant.{civil_date}
 use Rattle.liquid_value.specs.meaning.Tree.{Tree}

@@ -1,4 +1,12 @@
 pub mod Texts
 pub mod Dates
 pub mod Senses
+pub mod Seen
+pub mod Rendered
+pub mod Named
+pub mod Plugins
 pub mod Table
+pub mod text
+pub mod url
+pub mod value
+pub mod list

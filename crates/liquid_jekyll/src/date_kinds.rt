@@ -1,7 +1,7 @@
 //! The kinds of Jekyll's filters on dates.
 ghost use Rattle.liquid_jekyll.specs.meaning.Senses.{date_sense};
 
-use crate::dates::{DateForm, written_date};
+use crate::dates::{DateForm, write_date};
 use crate::parameters::{DAY, NONE};
 use liquid_dates::DateTime;
 use liquid_error::Error;
@@ -44,6 +44,6 @@ impl FilterKind for JekyllDateKind {
         input: &Value,
         arguments: &CallArguments<'_>,
     ) -> Result<Value, Error> {
-        written_date(alloc, self.form, self.now, input, arguments.positional)
+        write_date(alloc, self.form, self.now, input, arguments.positional)
     }
 }

@@ -10,9 +10,9 @@ ghost use Rattle.liquid_filters.specs.meaning.Dates.{formatted, printed};
 ghost use Rattle.liquid_jekyll.specs.meaning.Dates as Spec;
 
 use filter_dates::{moment_of, pattern_error};
-use filter_values::errors::unexpected_arguments;
 use liquid_dates::DateTime;
 use liquid_error::Error;
+use liquid_filters::value::errors::unexpected_arguments_error;
 use liquid_scalar::ScalarOf;
 use liquid_value::render::ValueSource;
 use liquid_value::{Value, ValueCow};
@@ -46,7 +46,7 @@ pub(crate) enum DayStyle {
 /// is an error.
 ///
 /// The arguments say how the day is written: `"ordinal"` as `22nd Dec 2020`, and with `"US"` after it as `Dec 22nd, 2020`.
-pub(crate) fn written_date(
+pub(crate) fn write_date(
     alloc: Global,
     form: DateForm,
     now: Option<DateTime>,
@@ -56,17 +56,17 @@ pub(crate) fn written_date(
     ensures { Gives tree_of result (Spec.written_date form now (tree_of input.now) (map cow_view arguments.now)) }
 {
     match arguments {
-        [] => written(alloc, form, DayStyle::Plain, now, input),
+        [] => write_moment(alloc, form, DayStyle::Plain, now, input),
         [day] => {
             let style = day_style(alloc, day.as_view(), "")?;
-            written(alloc, form, style, now, input)
+            write_moment(alloc, form, style, now, input)
         }
         [day, order] => {
             let order = order.as_view().to_kstr(alloc)?;
             let style = day_style(alloc, day.as_view(), order.as_str())?;
-            written(alloc, form, style, now, input)
+            write_moment(alloc, form, style, now, input)
         }
-        _ => Err(unexpected_arguments(alloc)),
+        _ => Err(unexpected_arguments_error(alloc)),
     }
 }
 
@@ -89,7 +89,7 @@ fn style_named(day: &str, order: &str) -> DayStyle
     }
 }
 
-fn written(
+fn write_moment(
     alloc: Global,
     form: DateForm,
     style: DayStyle,
@@ -104,7 +104,7 @@ fn written(
     match moment_of(alloc, input, now)? {
         Some(moment) => {
             let pattern = pattern(alloc, form, style, moment.day())?;
-            printed(alloc, &moment, pattern.as_str())
+            print_moment(alloc, &moment, pattern.as_str())
         }
         None => Err(moment_expected(alloc, input)),
     }
@@ -121,7 +121,7 @@ fn is_kept(input: &Value) -> bool
     }
 }
 
-fn printed(alloc: Global, moment: &DateTime, pattern: &str) -> Result<Value, Error>
+fn print_moment(alloc: Global, moment: &DateTime, pattern: &str) -> Result<Value, Error>
     ensures { Gives tree_of result (printed pattern.now (formatted moment.now pattern.now)) }
 {
     match moment.format(alloc, pattern) {

@@ -4,7 +4,7 @@ ghost use Rattle.liquid_error.specs.meaning.Told.{Gives};
 ghost use Rattle.liquid_value.specs.meaning.View.{view as tree_of};
 ghost use Rattle.liquid_jekyll.specs.meaning.Texts.{inspected};
 
-use jekyll_values::xml_escape;
+use crate::value::xml_escape;
 use liquid_error::Error;
 use liquid_filters::json_text::json;
 use liquid_value::Value;

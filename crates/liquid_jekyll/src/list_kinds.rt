@@ -1,9 +1,9 @@
 //! The kinds of Jekyll's filters on lists.
 ghost use Rattle.liquid_jekyll.specs.meaning.Senses.{list_sense};
 
+use crate::list::{find, group_by, keep_where, sort};
 use crate::parameters::{CONNECTOR, COUNT, ITEM, KEY, KEY_AND_VALUE, SORT, WHERE};
-use jekyll_lists::{find, group_by, keep_where, sort};
-use jekyll_values::{array_to_sentence_string, pop, push, shift, unshift};
+use crate::value::{array_to_sentence_string, pop, push, shift, unshift};
 use liquid_error::Error;
 use liquid_filters::{CallArguments, FilterKind, FilterRow};
 use liquid_value::Value;

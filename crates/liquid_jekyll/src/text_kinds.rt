@@ -3,12 +3,12 @@ ghost use Rattle.liquid_jekyll.specs.meaning.Senses.{text_sense};
 
 use crate::inspection::inspect;
 use crate::parameters::{MODE, NONE};
-use filter_strings::url_encode;
-use jekyll_values::{
+use crate::value::{
     normalize_whitespace, number_of_words, slugify, strip_index, to_integer, uri_escape, xml_escape,
 };
 use liquid_error::Error;
 use liquid_filters::json_text::json;
+use liquid_filters::string::url_encode;
 use liquid_filters::{CallArguments, FilterKind, FilterRow};
 use liquid_value::Value;
 use std::alloc::Global;

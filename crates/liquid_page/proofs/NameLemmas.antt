@@ -1,6 +1,7 @@
 -- Words, one after another.
 use Rattle.std.proofs.Common.{◌≡◌, ◌∙◌, ◌∷◌, ◌++◌, ℕ, List, [], Bool, true, Option, Some, None, Result, Ok, Err, IfOk, OnOk, subst, sym, ap, append_assoc}
 use Rattle.std.specs.Prelude.{flat_map}
+use Rattle.std.specs.Option.{unwrap_or}
 use Rattle.liquid_value.specs.meaning.Tree.{Members}
 use Rattle.page_site.specs.meaning.Items.{ItemShape, items_at}
 use Rattle.liquid_files.specs.meaning.Files.{known_in}
@@ -9,7 +10,7 @@ use Rattle.page_data.specs.meaning.Document.{DataGiven}
 use Rattle.page_data.specs.meaning.Merged.{merged}
 use Rattle.page_site.specs.meaning.Items.{MayBe}
 use Rattle.liquid_page.specs.meaning.Command.{at_output, items_for, output_folder}
-use Rattle.liquid_page.specs.meaning.Names.{ReadsAll, ReadsOver, format_at, list_name_at, name_in, path_in, path_named, under}
+use Rattle.liquid_page.specs.meaning.Names.{ReadsAll, ReadsOver, format_at, list_name_at, name_in, name_over, path_in, path_named, under}
 
 pub items_joined : {E : Type 0} (r : Result (Unit {0}) E) (f : List ℕ → List ItemShape) (words : List (List ℕ)) (word : List ℕ)
     (rest : List (List ℕ)) (old between new : List ItemShape) → words ≡ word ∷ rest → between ≡ old ++ f word
@@ -31,17 +32,19 @@ pub there_in : (all : List ℕ → Option (List ℕ)) (known : List ℕ → Opti
 there_in all known path bytes is may = subst (λ (k : List ℕ → Option (Option (List ℕ))). MayBe (k path) bytes) is may
 
 pub given_at : (all : List ℕ → Option (List ℕ)) (known : List ℕ → Option (Option (List ℕ))) (word path bytes : List ℕ) (format : Format)
-    (given before after : Members) → known ≡ known_in all → path ≡ path_in word → MayBe (known path) bytes
-    → format_at path ≡ Some format → DataGiven format (list_name_at path) bytes given
-    → after ≡ merged before (under (name_in word) given) → ReadsOver all word before after
-given_at all known word path bytes format given before after is at may has_format read put = record {
+    (name : Option (List ℕ)) (given before after : Members) → known ≡ known_in all → path ≡ path_in word → name ≡ name_in word
+    → MayBe (known path) bytes → format_at path ≡ Some format → DataGiven format (unwrap_or name (list_name_at path)) bytes given
+    → after ≡ merged before (under (name_over format name) given) → ReadsOver all word before after
+given_at all known word path bytes format name given before after is at named may has_format read put = record {
   bytes = bytes;
   format = format;
   given = given;
   is_there = subst (λ p. all p ≡ Some bytes) at (there_in all known path bytes is may);
   has_format = subst (λ p. format_at p ≡ Some format) at has_format;
-  is_read = subst (λ p. DataGiven format (list_name_at p) bytes given) at read;
-  is_after = put;
+  is_read =
+      subst (λ n. DataGiven format (unwrap_or n (list_name_at (path_in word))) bytes given) named
+      (subst (λ p. DataGiven format (unwrap_or name (list_name_at p)) bytes given) at read);
+  is_after = put ∙ ap (λ n. merged before (under (name_over format n) given)) named;
 }
 
 -- the files that words name, with what comes before their names

@@ -4,6 +4,7 @@ ghost use Rattle.std.specs.Prelude.{◌≡◌, ◌≢◌};
 use crate::engine::Explain;
 use crate::fault::Fault;
 use crate::request::Request;
+use crate::rewriting::Rewrite;
 use crate::run::{Given, gather, refuse};
 use crate::warnings::warn;
 use liquid_files::{Folder, Unread};
@@ -17,6 +18,7 @@ use page_site::{Item, Partials, Source, is_page};
 use page_uses::Uses;
 use std::alloc::{AllocError, AllocFailed, Global};
 use std::io::Write;
+use std::marker::PhantomData;
 
 /// What is checked against, and what was found so far.
 #[derive(Drop)]
@@ -35,12 +37,12 @@ impl Found {
     }
 }
 
-/// Reads the templates and the partials that a request names, and writes each one's error to `err`. Then it writes
-/// warnings: partials that no template names, names that the data lacks if there are data, and texts that are no dates.
+/// Reads the templates and the partials that a request names, each as `R` says, and writes each one's error to `err`. Then
+/// it writes warnings: partials that no template names, names that the data lacks if there are data, and texts that are no dates.
 ///
 /// Nothing is rendered, and no file is written. The exit status is 0 if there is no error; 1 if a text has one; 2 if a
 /// word can't be what it is given as; and 3 if a file can't be read.
-pub fn check_pages<F, T, B, X, D, E>(
+pub fn check_pages<R, F, T, B, X, D, E>(
     alloc: Global,
     language: &Language<F, T, B>,
     explain: &X,
@@ -49,6 +51,7 @@ pub fn check_pages<F, T, B, X, D, E>(
     err: &mut E,
 ) -> u8
 where
+    R: Rewrite,
     F: ParseFilter + Drop,
     T: ParseTag<F> + Drop,
     B: ParseBlock<F> + Drop,
@@ -58,7 +61,9 @@ where
     ensures same { D.known files.new ≡ D.known files.old }
 {
     match gather(alloc, request, files) {
-        Ok(given) => match check_given(alloc, language, explain, request, &given, files, err) {
+        Ok(given) => match check_given::<R, F, T, B, X, D, E>(
+            alloc, language, explain, request, &given, files, err,
+        ) {
             Ok(status) => status,
             Err(_) => refuse(files, &Fault::Memory, err).status,
         },
@@ -67,7 +72,7 @@ where
 }
 
 /// Checks what was read.
-fn check_given<F, T, B, X, D, E>(
+fn check_given<R, F, T, B, X, D, E>(
     alloc: Global,
     language: &Language<F, T, B>,
     explain: &X,
@@ -77,6 +82,7 @@ fn check_given<F, T, B, X, D, E>(
     err: &mut E,
 ) -> Result<u8, AllocError>
 where
+    R: Rewrite,
     F: ParseFilter + Drop,
     T: ParseTag<F> + Drop,
     B: ParseBlock<F> + Drop,
@@ -85,13 +91,18 @@ where
     E: Write,
     ensures same { D.known files.new ≡ D.known files.old }
 {
-    let checker = Checker {
+    let checker = Checker::<R, F, T, B, X> {
         language,
         explain,
         partials: &given.site.partials,
+        read_as: PhantomData,
     };
+    let mut uses = Uses::new(alloc);
+    if request.is_jekyll {
+        uses.bound.insert(String::from_str(alloc, "include")?)?;
+    }
     let mut found = Found {
-        uses: Uses::new(alloc),
+        uses,
         data: given.site.names.clone()?.into_object()?,
         status: 0,
     };
@@ -117,20 +128,22 @@ where
 
 /// What texts are checked by.
 #[derive(Drop)]
-struct Checker<'c, F, T, B, X> {
+struct Checker<'c, R, F, T, B, X> {
     language: &'c Language<F, T, B>,
     explain: &'c X,
     partials: &'c Partials,
+    read_as: PhantomData<R>,
 }
 
 /// Checks each partial.
-fn check_partials<F, T, B, X, E>(
+fn check_partials<R, F, T, B, X, E>(
     alloc: Global,
-    checker: &Checker<'_, F, T, B, X>,
+    checker: &Checker<'_, R, F, T, B, X>,
     found: &mut Found,
     err: &mut E,
 ) -> Result<(), AllocError>
 where
+    R: Rewrite,
     F: ParseFilter + Drop,
     T: ParseTag<F> + Drop,
     B: ParseBlock<F> + Drop,
@@ -144,15 +157,16 @@ where
 }
 
 /// Checks each template.
-fn check_items<F, T, B, X, D, E>(
+fn check_items<R, F, T, B, X, D, E>(
     alloc: Global,
-    checker: &Checker<'_, F, T, B, X>,
+    checker: &Checker<'_, R, F, T, B, X>,
     items: &[Item],
     found: &mut Found,
     files: &mut D,
     err: &mut E,
 ) -> Result<(), AllocError>
 where
+    R: Rewrite,
     F: ParseFilter + Drop,
     T: ParseTag<F> + Drop,
     B: ParseBlock<F> + Drop,
@@ -184,15 +198,16 @@ where
 }
 
 /// Checks the text of a file.
-fn check_text<F, T, B, X, E>(
+fn check_text<R, F, T, B, X, E>(
     alloc: Global,
-    checker: &Checker<'_, F, T, B, X>,
+    checker: &Checker<'_, R, F, T, B, X>,
     path: &str,
     text: &str,
     found: &mut Found,
     err: &mut E,
 ) -> Result<(), AllocError>
 where
+    R: Rewrite,
     F: ParseFilter + Drop,
     T: ParseTag<F> + Drop,
     B: ParseBlock<F> + Drop,
@@ -216,28 +231,34 @@ where
         text: front.body,
         lines_before: front.lines,
     };
-    found
-        .uses
-        .add(alloc, path, front.lines, front.body, &found.data)?;
-    parse_text(alloc, checker, source, found, err)
+    read_source(alloc, checker, source, found, err)
 }
 
-/// Parses a text, and writes its error.
-fn parse_text<F, T, B, X, E>(
+/// Adds what a text uses, parses it, and writes its error.
+fn read_source<R, F, T, B, X, E>(
     alloc: Global,
-    checker: &Checker<'_, F, T, B, X>,
+    checker: &Checker<'_, R, F, T, B, X>,
     source: Source<'_>,
     found: &mut Found,
     err: &mut E,
 ) -> Result<(), AllocError>
 where
+    R: Rewrite,
     F: ParseFilter + Drop,
     T: ParseTag<F> + Drop,
     B: ParseBlock<F> + Drop,
     X: Explain,
     E: Write,
 {
-    if let Err(error) = read_template::<F, T, B>(alloc, source.text, checker.language) {
+    let text = R::rewrite(alloc, source.text)?;
+    found.uses.add(
+        alloc,
+        source.path,
+        source.lines_before,
+        text.as_str(),
+        &found.data,
+    )?;
+    if let Err(error) = read_template::<F, T, B>(alloc, text.as_str(), checker.language) {
         if error.is_memory() {
             return Err(AllocError);
         }

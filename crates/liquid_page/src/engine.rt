@@ -6,6 +6,7 @@ ghost use Rattle.liquid_template.specs.meaning.Runs.{setting};
 ghost use Rattle.liquid_partials.specs.meaning.Sources.{texts_in};
 ghost use Rattle.liquid_page.specs.meaning.Answered.{Answered, ComesTo};
 
+use crate::rewriting::Rewrite;
 use crate::shared::SharedSource;
 use liquid_error::Error;
 use liquid_pages::{PageLimit, PageOptions, render_text};
@@ -32,19 +33,22 @@ pub trait Explain {
     ) -> Result<String, AllocError>;
 }
 
-/// Renders texts in a language, with these options and partials, over a register `V`.
+/// Renders texts in a language, with these options and partials, over a register `V`. Texts and partials are read as `R`
+/// says.
 #[derive(Drop)]
-pub struct PageEngine<V, F, T, B, X> {
+pub struct PageEngine<V, R, F, T, B, X> {
     pub language: Rc<Language<F, T, B>>,
     pub options: PageOptions,
     pub partials: Rc<Partials>,
     pub explain: X,
     pub register: PhantomData<V>,
+    pub read_as: PhantomData<R>,
 }
 
-impl<V, F, T, B, X> Engine for PageEngine<V, F, T, B, X>
+impl<V, R, F, T, B, X> Engine for PageEngine<V, R, F, T, B, X>
 where
     V: Fresh,
+    R: Rewrite,
     F: ParseFilter + Drop,
     T: ParseTag<F> + Drop,
     B: ParseBlock<F> + Drop,
@@ -52,7 +56,7 @@ where
     B::Node: Discreet<V>,
     X: Explain,
 {
-    ghost answers = { λ engine. Answered (setting V.fresh F.Filter.means T.Node.means B.Node.means)
+    ghost answers = { λ engine. Answered R.rewritten (setting V.fresh F.Filter.means T.Node.means B.Node.means)
         (language_of F.makes T.gives B.block engine.language.value) engine.options (texts_in engine.partials.value) };
 
     fn render(
@@ -64,12 +68,15 @@ where
         let Ok(partials) = self.partials.clone() else {
             return Err(Failure::Memory);
         };
+        let Ok(text) = R::rewrite(alloc, source.text) else {
+            return Err(Failure::Memory);
+        };
         let mut sink = TextSink::new(alloc);
         let mut stopped_by = None;
-        let answer = render_text::<V, F, T, B, SharedSource, TextSink>(
+        let answer = render_text::<V, F, T, B, SharedSource<R>, TextSink>(
             alloc,
             self.options,
-            source.text,
+            text.as_str(),
             &self.language,
             names,
             Some(SharedSource::new(partials)),

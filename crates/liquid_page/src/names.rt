@@ -1,5 +1,6 @@
 //! The names that pages see: data from files, and texts that words set.
 ghost use Rattle.std.specs.Prelude.{◌≡◌, ◌∷◌, ℕ, List, [], Option, IfOk, is_ok, map};
+ghost use Rattle.std.specs.Option.{unwrap_or};
 ghost use Rattle.liquid_files.specs.meaning.Files.{known_in, reading};
 ghost use Rattle.liquid_value.specs.meaning.Tree.{no_members};
 ghost use Rattle.liquid_value.specs.meaning.View.{members_view};
@@ -15,6 +16,7 @@ ghost use Rattle.liquid_page.specs.meaning.Names.{
   list_name,
   list_name_at,
   name_in,
+  name_over,
   path_in,
   path_named,
   text_given,
@@ -100,6 +102,26 @@ fn list_name_at(path: &str) -> &str
     list_name(Path::new(path).file_name().unwrap_or(""))
 }
 
+/// Returns the name of a list: that of its word, or if it has none, that of the file at this path.
+fn list_name_of<'w>(name: Option<&'w str>, path: &'w str) -> &'w str
+    ensures { result.now ≡ unwrap_or (text_given name.entry) (list_name_at path.now) }
+{
+    match name {
+        Some(name) => name,
+        None => list_name_at(path),
+    }
+}
+
+/// Returns the name that data goes under. A list has its name already.
+fn name_over(format: Format, name: Option<&str>) -> Option<&str>
+    ensures { text_given result ≡ name_over format (text_given name.entry) }
+{
+    match format {
+        Format::Csv => None,
+        Format::Json | Format::Toml => name,
+    }
+}
+
 /// Returns the names after the data of these words is put over them, one after another.
 pub(crate) fn read_all<F: Folder>(
     alloc: Global,
@@ -141,15 +163,22 @@ fn read_over<F: Folder>(
         return Err(no_format(alloc, word.path));
     };
     let text = read_text(alloc, files, word.path)?;
-    let given = read_given(alloc, format, word.path, text.as_str())?;
-    Ok(put_over(alloc, word.name, given, names)?)
+    let list = list_name_of(word.name, word.path);
+    let given = read_given(alloc, format, list, word.path, text.as_str())?;
+    Ok(put_over(alloc, name_over(format, word.name), given, names)?)
 }
 
-/// Returns the data of a text.
-fn read_given(alloc: Global, format: Format, path: &str, text: &str) -> Result<Object, Fault>
-    ensures { IfOk result (λ given. DataGiven format (list_name_at path.now) text.now (members_view given.entries)) }
+/// Returns the data of a text, of which a list has this name.
+fn read_given(
+    alloc: Global,
+    format: Format,
+    list: &str,
+    path: &str,
+    text: &str,
+) -> Result<Object, Fault>
+    ensures { IfOk result (λ given. DataGiven format list.now text.now (members_view given.entries)) }
 {
-    match read_data(alloc, format, list_name_at(path), text) {
+    match read_data(alloc, format, list, text) {
         Ok(given) => Ok(given),
         Err(fault) => Err(data_fault(alloc, path, text, &fault)),
     }

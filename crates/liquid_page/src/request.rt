@@ -19,6 +19,8 @@ pub struct Request<'w> {
     pub moment: Option<&'w str>,
     /// How each page is rendered.
     pub options: PageOptions,
+    /// Whether the templates are as Jekyll's authors write them. Then a partial's name is its whole path in its folder.
+    pub is_jekyll: bool,
     /// Whether the pages are made again after each line of standard input.
     pub is_watched: bool,
 }

@@ -23,6 +23,7 @@ ghost use Rattle.liquid_page.specs.meaning.Command.{
   folder_requests,
   page_items,
   page_requests,
+  partial_names,
 };
 ghost use Rattle.liquid_page.specs.meaning.Names.{text_given};
 ghost use Rattle.liquid_page.specs.meaning.Requests.{words_of};
@@ -33,14 +34,15 @@ use crate::fault::Fault;
 use crate::names::{data_path, read_all, set_all};
 use crate::plan::plan;
 use crate::request::Request;
+use crate::rewriting::Rewrite;
 use liquid_files::Folder;
 use liquid_parser::{Language, ParseBlock, ParseTag};
 use liquid_plugins::{Discreet, ParseFilter};
 use liquid_runtime::Fresh;
 use liquid_value::{Object, SharedObject};
 use page_site::{
-    Engine, Item, Partials, Site, SiteFault, Tally, find_clash, make, read_partials, reason_of,
-    report, write_items,
+    Engine, Item, PartialNames, Partials, Site, SiteFault, Tally, find_clash, make, read_partials,
+    reason_of, report, write_items,
 };
 use std::alloc::{AllocError, Global};
 use std::collections::BTreeMap;
@@ -64,8 +66,8 @@ pub(crate) struct Given {
     pub(crate) items: Vec<Item>,
 }
 
-/// Makes the pages that a request names, in a language, and prints the page or writes the files. An error of a text is
-/// explained by `explain`.
+/// Makes the pages that a request names, in a language, and prints the page or writes the files. Each text and each
+/// partial is read as `R` says. An error of a text is explained by `explain`.
 ///
 /// The files of data are read and the texts set, one over another; then the partials are read, and the folders of
 /// templates are listed. After that each template is read, rendered and written, and each other file copied. Nothing else
@@ -75,7 +77,7 @@ pub(crate) struct Given {
 /// The exit status is 0 if all was done. Each fault is written to `err`, and the first one gives the status: 1 if a page
 /// can't be rendered or written, 2 if a word can't be what it is given as, and 3 if a file can't be read as what it
 /// should be.
-pub fn run_page<V, F, T, B, X, D, W, E>(
+pub fn run_page<V, R, F, T, B, X, D, W, E>(
     alloc: Global,
     language: Rc<Language<F, T, B>>,
     explain: X,
@@ -86,6 +88,7 @@ pub fn run_page<V, F, T, B, X, D, W, E>(
 ) -> Outcome
 where
     V: Fresh,
+    R: Rewrite,
     F: ParseFilter + Drop,
     T: ParseTag<F> + Drop,
     B: ParseBlock<F> + Drop,
@@ -97,7 +100,7 @@ where
     E: Write,
     ensures pages { (all : List ℕ → Option (List ℕ)) (folders : Bool → List ℕ → Option (List (List ℕ)))
         → D.known files.old ≡ known_in all → D.listed files.old ≡ listed_in folders
-        → Pages (Answered (setting V.fresh F.Filter.means T.Node.means B.Node.means)
+        → Pages (Answered R.rewritten (setting V.fresh F.Filter.means T.Node.means B.Node.means)
         (language_of F.makes T.gives B.block language.value) request.now.options) all folders (words_of request.now)
         (D.known files.new) (W.contents out.old) (W.contents out.new) result.status }
     ensures requests { (folders : Bool → List ℕ → Option (List (List ℕ))) → D.listed files.old ≡ listed_in folders
@@ -106,7 +109,7 @@ where
     ensures quiet { result.status ≡ 0 → err.new ≡ err.old }
 {
     match gather(alloc, request, files) {
-        Ok(given) => make_pages::<V, F, T, B, X, D, W, E>(
+        Ok(given) => make_pages::<V, R, F, T, B, X, D, W, E>(
             alloc, language, explain, request, &given, files, out, err,
         ),
         Err(fault) => refuse(files, &fault, err),
@@ -114,7 +117,7 @@ where
 }
 
 /// Makes the pages of what was read.
-fn make_pages<V, F, T, B, X, D, W, E>(
+fn make_pages<V, R, F, T, B, X, D, W, E>(
     alloc: Global,
     language: Rc<Language<F, T, B>>,
     explain: X,
@@ -126,6 +129,7 @@ fn make_pages<V, F, T, B, X, D, W, E>(
 ) -> Outcome
 where
     V: Fresh,
+    R: Rewrite,
     F: ParseFilter + Drop,
     T: ParseTag<F> + Drop,
     B: ParseBlock<F> + Drop,
@@ -135,7 +139,7 @@ where
     D: Folder,
     W: Write,
     E: Write,
-    ensures ends { Ends (Answered (setting V.fresh F.Filter.means T.Node.means B.Node.means)
+    ensures ends { Ends (Answered R.rewritten (setting V.fresh F.Filter.means T.Node.means B.Node.means)
         (language_of F.makes T.gives B.block language.value) request.now.options (texts_in given.now.site.partials.value))
         (site_of given.now) (D.known files.old) (D.known files.new) (W.contents out.old) (W.contents out.new)
         (text_given request.now.output) result.status
@@ -150,12 +154,13 @@ where
     let Ok(partials) = given.site.partials.clone() else {
         return refuse(files, &Fault::Memory, err);
     };
-    let mut engine = PageEngine::<V, F, T, B, X> {
+    let mut engine = PageEngine::<V, R, F, T, B, X> {
         language,
         options: request.options,
         partials,
         explain,
         register: PhantomData,
+        read_as: PhantomData,
     };
     finish(alloc, request.output, given, &mut engine, files, out, err)
 }
@@ -176,7 +181,8 @@ pub(crate) fn gather<D: Folder>(
         → Follows (first_requests folders (words_of request.now)) (D.requests files.old) (D.requests files.new) (is_ok result) }
 {
     let names = read_names(alloc, request, files)?;
-    let partials = Rc::new(alloc, partials_of(alloc, files, request.folder)?)?;
+    let called = partial_names(request);
+    let partials = Rc::new(alloc, partials_of(alloc, files, called, request.folder)?)?;
     let items = plan(alloc, files, request.output, request.templates.as_slice())?;
     Ok(Given {
         site: Site { names, partials },
@@ -206,15 +212,27 @@ fn read_names<D: Folder>(
     Ok(SharedObject::shared(alloc, names)?)
 }
 
+/// Returns what the partials of a request are called.
+fn partial_names(request: &Request<'_>) -> PartialNames
+    ensures { result ≡ partial_names request.now.is_jekyll }
+{
+    if request.is_jekyll {
+        PartialNames::WholePaths
+    } else {
+        PartialNames::WithoutEnding
+    }
+}
+
 /// Returns the partials of a folder, if there is one.
 fn partials_of<D: Folder>(
     alloc: Global,
     files: &mut D,
+    called: PartialNames,
     folder: Option<&str>,
 ) -> Result<Partials, SiteFault>
     ensures partials { (all : List ℕ → Option (List ℕ)) (folders : Bool → List ℕ → Option (List (List ℕ)))
         → D.known files.old ≡ known_in all → D.listed files.old ≡ listed_in folders
-        → IfOk result (λ partials. PartialsAre all folders (text_given folder.entry) (partial_text partials)) }
+        → IfOk result (λ partials. PartialsAre all folders called (text_given folder.entry) (partial_text partials)) }
     ensures same { D.known files.new ≡ D.known files.old }
     ensures listed { D.listed files.new ≡ D.listed files.old }
     ensures requests { (folders : Bool → List ℕ → Option (List (List ℕ))) → D.listed files.old ≡ listed_in folders
@@ -222,7 +240,7 @@ fn partials_of<D: Folder>(
         (is_ok result) }
 {
     match folder {
-        Some(folder) => read_partials(alloc, files, folder),
+        Some(folder) => read_partials(alloc, files, called, folder),
         None => Ok(BTreeMap::new(alloc)),
     }
 }

@@ -1,31 +1,38 @@
 //! Partials that the pages of a site share.
 ghost use Rattle.std.specs.Prelude.{◌≡◌, IfOk, is_some, map, option_map};
 ghost use Rattle.std.specs.FinMap.{get, keys};
+ghost use Rattle.liquid_partials.specs.meaning.Each.{each};
 ghost use Rattle.liquid_partials.specs.meaning.Sources.{texts_in};
 
+use crate::rewriting::Rewrite;
 use liquid_partials::PartialSource;
 use page_site::Partials;
 use std::alloc::{AllocError, Global};
 use std::borrow::CowStr;
+use std::marker::PhantomData;
 use std::rc::Rc;
 
-/// A source of partials that is shared and not copied.
+/// A source of partials that is shared and not copied, and whose texts are read as `R` says.
 #[derive(Drop)]
-pub struct SharedSource {
+pub struct SharedSource<R> {
     texts: Rc<Partials>,
+    read_as: PhantomData<R>,
 }
 
-impl SharedSource {
+impl<R: Rewrite> SharedSource<R> {
     /// Returns a source that shares these texts.
-    pub fn new(texts: Rc<Partials>) -> SharedSource
+    pub fn new(texts: Rc<Partials>) -> SharedSource<R>
         ensures { result.texts ≡ texts }
     {
-        SharedSource { texts }
+        SharedSource {
+            texts,
+            read_as: PhantomData,
+        }
     }
 }
 
-impl PartialSource for SharedSource {
-    ghost texts = { λ source. texts_in source.texts.value };
+impl<R: Rewrite> PartialSource for SharedSource<R> {
+    ghost texts = { λ source. each R.rewritten (texts_in source.texts.value) };
 
     fn contains(&self, name: &str) -> bool {
         has_text(&self.texts, name)
@@ -35,9 +42,9 @@ impl PartialSource for SharedSource {
         names_in(alloc, &self.texts)
     }
 
-    fn try_get(&self, _alloc: Global, name: &str) -> Result<Option<CowStr<'_>>, AllocError> {
+    fn try_get(&self, alloc: Global, name: &str) -> Result<Option<CowStr<'_>>, AllocError> {
         match text_at(&self.texts, name) {
-            Some(text) => Ok(Some(CowStr::Borrowed(text))),
+            Some(text) => Ok(Some(R::rewrite(alloc, text)?)),
             None => Ok(None),
         }
     }

@@ -1,9 +1,10 @@
 //! The words of `liquid page` and `liquid check`: a table of options, from which reading, usage and help are made.
 
+use crate::names::{data_path, path_named};
 use crate::request::Request;
 use clap::error::ErrorKind;
 use clap::{Arg, ArgAction, ArgMatches, Command, Error};
-use liquid_pages::{PageFrame, PageOptions};
+use liquid_pages::{Leniency, PageFrame, PageOptions};
 use std::alloc::{AllocError, AllocFailed, Global};
 
 /// Why words are no request.
@@ -43,16 +44,18 @@ const EXAMPLES: &str = "Examples:
   liquid page mail.liquid --data customer.toml --set subject=Welcome -o mail.txt
   liquid page site --data site.toml --partials parts -o public/
 
-DATA is JSON, TOML or CSV by its ending. Of several the later wins. NAME=DATA puts it under a name.
-A template may begin with front matter between lines '---' or '+++': it is `page`, and its
-`layout` names the partial layouts/NAME, which sees the page as `content`.
+DATA is JSON, TOML or CSV by its ending. Of several the later wins.
+NAME=DATA puts it under a name.
+A template may begin with front matter between lines '---' or '+++': it is
+`page`, and its `layout` names the partial layouts/NAME, which sees the page as
+`content`.
 '-' is standard input. N may end in k or M.
 Status: 1 a page has an error, 2 a word is wrong, 3 a file can't be read.";
 
 /// What the help of `liquid check` says at its end.
 const WARNINGS: &str =
-    "Each error is shown with its line. Warnings: a name that the data lacks, a text that is not a date,
-and a partial that nothing includes. Nothing is rendered.
+    "Each error is shown with its line. Warnings: a name that the data lacks, a text
+that is not a date, and a partial that nothing includes. Nothing is rendered.
 Status: 1 a template has an error, 2 a word is wrong, 3 a file can't be read.";
 
 /// Returns the table of a command's options.
@@ -79,6 +82,45 @@ fn table<'w>(alloc: Global, task: Task) -> Result<Command<'w>, AllocError> {
     }
 }
 
+/// Returns the table of the options of `liquid render --jekyll`.
+fn render_table<'w>(alloc: Global) -> Result<Command<'w>, AllocError> {
+    let template = Arg::new(alloc, "templates")
+        .value_name("TEMPLATE")
+        .required(true)
+        .help("A template of Jekyll; what is before its body,\nbetween lines '---', is left out");
+    let globals = Arg::new(alloc, "data")
+        .value_name("GLOBALS.json")
+        .required(true)
+        .help("A JSON object, whose members are the names\nthat the template sees");
+    let partials = Arg::new(alloc, "partials")
+        .value_name("DIR")
+        .help("The partials: each file in it, by its path");
+    let output = Arg::new(alloc, "output")
+        .short('o')
+        .long("output")
+        .value_name("FILE")
+        .help("Writes the page to this file, if it is whole");
+    let jekyll = Arg::new(alloc, "jekyll")
+        .long("jekyll")
+        .action(ArgAction::SetTrue)
+        .help("The template is Jekyll's: its tags and filters,\nand a missing name is nil");
+    let standard = Arg::new(alloc, "standard")
+        .long("standard")
+        .action(ArgAction::SetTrue)
+        .help("Changes nothing: --jekyll has the standard tags\nand filters too");
+    let command = Command::new(alloc, "render")
+        .bin_name("liquid render")?
+        .no_binary_name(true)
+        .about("Renders a template of Jekyll over a JSON object")
+        .arg(template)?
+        .arg(globals)?
+        .arg(partials)?
+        .arg(output)?
+        .arg(jekyll)?
+        .arg(standard)?;
+    with_manners(alloc, command)
+}
+
 /// Adds the options that name what is read.
 fn with_files<'w>(alloc: Global, command: Command<'w>) -> Result<Command<'w>, AllocError> {
     let templates = Arg::new(alloc, "templates")
@@ -100,8 +142,19 @@ fn with_files<'w>(alloc: Global, command: Command<'w>) -> Result<Command<'w>, Al
     let partials = Arg::new(alloc, "partials")
         .long("partials")
         .value_name("FOLDER")
-        .help("The partials: each file in it, by its path without .liquid");
-    command.arg(templates)?.arg(data)?.arg(set)?.arg(partials)
+        .help("The partials: each file in it, by its path\nwithout .liquid");
+    let jekyll = Arg::new(alloc, "jekyll")
+        .long("jekyll")
+        .action(ArgAction::SetTrue)
+        .help(
+            "The templates are Jekyll's: its tags and filters,\nand partials by their whole paths",
+        );
+    command
+        .arg(templates)?
+        .arg(data)?
+        .arg(set)?
+        .arg(partials)?
+        .arg(jekyll)
 }
 
 /// Adds the options that say where pages go, and when they are made.
@@ -110,11 +163,11 @@ fn with_output<'w>(alloc: Global, command: Command<'w>) -> Result<Command<'w>, A
         .short('o')
         .long("output")
         .value_name("PATH")
-        .help("Writes the page to this file, or the pages to this FOLDER/");
+        .help("Writes the page to this file, or the pages\nto this FOLDER/");
     let watch = Arg::new(alloc, "watch")
         .long("watch")
         .action(ArgAction::SetTrue)
-        .help("Makes the pages again after each line of standard input, if a file changed");
+        .help("Makes the pages again after each line of standard\ninput, if a file changed");
     let now = Arg::new(alloc, "now")
         .long("now")
         .value_name("DATE")
@@ -133,7 +186,7 @@ fn with_manners<'w>(alloc: Global, command: Command<'w>) -> Result<Command<'w>, 
         .long("strict")
         .action(ArgAction::SetTrue)
         .overrides_with("lenient")?
-        .help("A missing name is an error (the default)");
+        .help("A missing name is an error\n(the default without --jekyll)");
     let sandboxed = Arg::new(alloc, "sandboxed")
         .long("sandboxed")
         .action(ArgAction::SetTrue)
@@ -154,6 +207,10 @@ fn with_manners<'w>(alloc: Global, command: Command<'w>) -> Result<Command<'w>, 
         .arg(bytes)
 }
 
+/// What a request that would read standard input twice is answered.
+const INPUT_TWICE: &str =
+    "liquid: standard input can be one template, one file of data or the lines of --watch\n";
+
 /// Reads the words after the name of a command.
 pub fn read_words<'w>(
     alloc: Global,
@@ -161,7 +218,47 @@ pub fn read_words<'w>(
     words: &'w [String],
 ) -> Result<Request<'w>, NoRequest> {
     match table(alloc, task)?.try_get_matches_from(words) {
-        Ok(matches) => request_of(alloc, &matches),
+        Ok(matches) => read_once(alloc, request_of(alloc, &matches)?),
+        Err(error) => Err(no_request(alloc, &error)),
+    }
+}
+
+/// Returns the request, unless it would read standard input twice.
+fn read_once<'w>(alloc: Global, request: Request<'w>) -> Result<Request<'w>, NoRequest> {
+    if reads_input_twice(&request) {
+        let message = String::from_str(alloc, INPUT_TWICE)?;
+        return Err(NoRequest::Wrong(message));
+    }
+    Ok(request)
+}
+
+/// Returns `true` if two of the templates, the data and the watch would read standard input.
+fn reads_input_twice(request: &Request<'_>) -> bool {
+    let mut is_taken = request.is_watched;
+    for word in request.templates.as_slice() {
+        if path_named(*word) == path_named("-") {
+            if is_taken {
+                return true;
+            }
+            is_taken = true;
+        }
+    }
+    for word in request.data_words.as_slice() {
+        if data_path(*word) == path_named("-") {
+            if is_taken {
+                return true;
+            }
+            is_taken = true;
+        }
+    }
+    false
+}
+
+/// Reads the words after `render`, of which one is `--jekyll`. The template is the one of the request, the JSON object its
+/// one word for data, and the folder that of its partials.
+pub fn read_render_words<'w>(alloc: Global, words: &'w [String]) -> Result<Request<'w>, NoRequest> {
+    match render_table(alloc)?.try_get_matches_from(words) {
+        Ok(matches) => read_once(alloc, request_of(alloc, &matches)?),
         Err(error) => Err(no_request(alloc, &error)),
     }
 }
@@ -176,6 +273,7 @@ fn request_of<'w>(alloc: Global, matches: &ArgMatches<'w>) -> Result<Request<'w>
         output: matches.get_str("output"),
         moment: matches.get_str("now"),
         options: options_of(alloc, matches)?,
+        is_jekyll: matches.get_flag("jekyll"),
         is_watched: matches.get_flag("watch"),
     })
 }
@@ -201,10 +299,20 @@ fn options_of(alloc: Global, matches: &ArgMatches<'_>) -> Result<PageOptions, No
     Ok(PageOptions {
         frame,
         decimals: true,
-        lenient: matches.get_flag("lenient"),
+        leniency: leniency_of(matches),
         max_turns: limit_of(alloc, matches, "turns")?,
         max_bytes: limit_of(alloc, matches, "bytes")?,
     })
+}
+
+/// Returns which names and indexes without a value are nil. In Jekyll's templates all are, unless an option makes them
+/// errors.
+fn leniency_of(matches: &ArgMatches<'_>) -> Leniency {
+    if matches.get_flag("jekyll") && !matches.get_flag("strict") {
+        Leniency::Indexes
+    } else {
+        Leniency::of_paths(matches.get_flag("lenient"))
+    }
 }
 
 /// Returns the limit that an option gives. 0 is no limit.

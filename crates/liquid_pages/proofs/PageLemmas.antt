@@ -50,7 +50,7 @@ module _ {Reg F T P L B Q : Type 0} (s : Settings Reg F T P B Q) (l : Lang F T L
       (result : Result (Unit {0}) Error)
       → options.frame ≡ frame → room ≡ room_of options
       → RendersRun (limited room (nodes_action s frame stored names nodes) v) v before after left result
-      → stored ≡ found → v ≡ built_over (first_register s) options.lenient (runtime_names frame names) → IsFoundIn l partials found
+      → stored ≡ found → v ≡ built_over (first_register s) options.leniency (runtime_names frame names) → IsFoundIn l partials found
       → RendersAnswer s l options (Ok nodes) names partials before after result
   answer_over options frame room nodes stored found v left names partials before after result is same_room given same_stored same_v
       is_found =
@@ -58,7 +58,7 @@ module _ {Reg F T P L B Q : Type 0} (s : Settings Reg F T P B Q) (l : Lang F T L
         left = left;
         rendered = λ other is_other.
             subst (λ w. RendersRun (page_action s options other names nodes w) w before after left result)
-            (same_v ∙ ap (λ b. built_over (first_register s) options.lenient (runtime_names b names)) (sym is))
+            (same_v ∙ ap (λ b. built_over (first_register s) options.leniency (runtime_names b names)) (sym is))
             (subst (λ b. RendersRun (limited (room_of options) (nodes_action s b other names nodes) v) v before after left result) (sym is)
             (subst (λ t. RendersRun (limited (room_of options) (nodes_action s frame t names nodes) v) v before after left result)
             (same_stored ∙ one_found partials found other is_found is_other)

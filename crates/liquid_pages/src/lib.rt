@@ -17,6 +17,7 @@ pub use fault::{PageFault, PageText};
 pub use gate::PageLimit;
 pub use gather::PartialBytes;
 pub use globals::globals_of;
+pub use liquid_runtime::Leniency;
 pub use options::{PageFrame, PageOptions};
 pub use page::render_page;
 pub use prepared::{PreparedPage, prepare_page, render_prepared};

@@ -2,6 +2,8 @@
 ghost use Rattle.std.specs.Prelude.{◌≡◌};
 ghost use Rattle.liquid_pages.specs.meaning.Limited.{room_of};
 
+use liquid_runtime::Leniency;
+
 /// Where the globals of a page are, and where what its template assigns goes.
 #[derive(Clone, Copy, Debug, PartialEq, Eq)]
 pub enum PageFrame {
@@ -14,8 +16,8 @@ pub enum PageFrame {
     Isolated,
 }
 
-/// Where the globals are; whether a number of the globals with a fraction is a decimal instead of an error; whether a name
-/// or an index without a value is nil instead of an error; and how many turns of tags and blocks the page may take and how
+/// Where the globals are; whether a number of the globals with a fraction is a decimal instead of an error; which names and
+/// indexes without a value are nil instead of an error; and how many turns of tags and blocks the page may take and how
 /// many bytes it may write, if that is limited.
 ///
 /// At the first turn past its limit, or the first piece of text that is not whole within its limit, rendering ends with
@@ -24,7 +26,7 @@ pub enum PageFrame {
 pub struct PageOptions {
     pub frame: PageFrame,
     pub decimals: bool,
-    pub lenient: bool,
+    pub leniency: Leniency,
     pub max_turns: Option<u64>,
     pub max_bytes: Option<u64>,
 }

@@ -24,7 +24,7 @@ use liquid_parser::{Language, ParseBlock, ParseTag, parse};
 use liquid_partials::{LazyCompiler, LazyStore, PartialCompiler, PartialSource};
 use liquid_plugins::{Discreet, ParseFilter};
 use liquid_runtime::names::no_names;
-use liquid_runtime::{BuiltRuntime, Fresh, Runtime, RuntimeBuilder};
+use liquid_runtime::{BuiltRuntime, Fresh, Leniency, Runtime, RuntimeBuilder};
 use liquid_template::{PartialStore, Sink, Template};
 use liquid_value::Object;
 use std::alloc::{AllocError, Global};
@@ -162,15 +162,15 @@ where
     ensures borrows { (K.sunk sink.new).lent ≡ (K.sunk sink.old).lent }
 {
     let room = room_of(options);
-    let lenient = options.lenient;
+    let leniency = options.leniency;
     match options.frame {
         PageFrame::Open => {
-            let mut runtime = runtime_of::<V, F, T, B, S>(alloc, lenient, globals, store);
+            let mut runtime = runtime_of::<V, F, T, B, S>(alloc, leniency, globals, store);
             let answer = render_in_room(alloc, room, template, &mut runtime, sink, stopped_by);
             (answer, runtime.into_partials())
         }
         PageFrame::Sandboxed => {
-            let mut runtime = runtime_of::<V, F, T, B, S>(alloc, lenient, no_names(alloc), store);
+            let mut runtime = runtime_of::<V, F, T, B, S>(alloc, leniency, no_names(alloc), store);
             let answer = render_sandboxed_in_room(
                 alloc,
                 room,
@@ -183,7 +183,7 @@ where
             (answer, runtime.into_partials())
         }
         PageFrame::Isolated => {
-            let mut runtime = runtime_of::<V, F, T, B, S>(alloc, lenient, no_names(alloc), store);
+            let mut runtime = runtime_of::<V, F, T, B, S>(alloc, leniency, no_names(alloc), store);
             let answer = render_isolated_in_room(
                 alloc,
                 room,
@@ -218,10 +218,10 @@ where
     }
 }
 
-/// Returns the runtime over these globals and this store, if there is one, lenient or not.
+/// Returns the runtime of this leniency over these globals and this store, if there is one.
 fn runtime_of<V, F, T, B, S>(
     alloc: Global,
-    lenient: bool,
+    leniency: Leniency,
     globals: Object,
     store: Option<LazyStore<S, F, T, B>>,
 ) -> PageRuntime<V, S, F, T, B>
@@ -231,12 +231,12 @@ where
     T: ParseTag<F> + Drop,
     B: ParseBlock<F> + Drop,
     S: PartialSource + Drop,
-    ensures view { ⟦<PageRuntime<V, S, F, T, B> as Runtime>⟧.view result ≡ built_over V.fresh lenient (names_of globals) }
+    ensures view { ⟦<PageRuntime<V, S, F, T, B> as Runtime>⟧.view result ≡ built_over V.fresh leniency (names_of globals) }
     ensures store { ⟦<PageRuntime<V, S, F, T, B> as Runtime>⟧.store result ≡ store }
 {
     let builder = RuntimeBuilder::new(alloc)
         .set_globals(globals)
-        .set_lenient(lenient);
+        .set_leniency(leniency);
     match store {
         Some(store) => builder.set_partials(store).build(),
         None => builder.build(),

@@ -86,7 +86,7 @@ where
         ensures count { IfOk result (λ store. store.lazy.texts.readings.count ≡ len (S.texts self.source)) }
     {
         let mut lazy = LazyCompiler::new(self.source).compile(alloc, language)?;
-        for name in owned_names(alloc, lazy.texts())? {
+        for name in copy_names(alloc, lazy.texts())? {
             let _ = lazy.try_get(alloc, name.as_str())?;
         }
         Ok(EagerStore { lazy })
@@ -94,7 +94,7 @@ where
 }
 
 /// Returns the names of a source, each as an owned text.
-fn owned_names<S, F, T, B>(
+fn copy_names<S, F, T, B>(
     alloc: Global,
     texts: &Texts<S, F, T, B>,
 ) -> Result<Vec<String>, AllocError>

@@ -166,9 +166,9 @@ where
             + parsed_for (shared_nodes F.Filter.shape T.Node.shape B.Node.shape)
             (language_of F.makes T.gives B.block) S.texts self.old.texts self.old.kept name.now }
     {
-        match kept_of(alloc, &mut self.texts, name)? {
+        match parse_for_store(alloc, &mut self.texts, name)? {
             Some(answer) => {
-                let copy = copied(&answer)?;
+                let copy = copy_kept(&answer)?;
                 keep(&mut self.kept, String::from_str(alloc, name)?, copy)?;
                 Ok(Some(answer))
             }
@@ -216,7 +216,7 @@ where
             (language_of F.makes T.gives B.block) S.texts self.old.texts self.old.kept name.now }
     {
         match self.under(name) {
-            Some(answer) => kept_tree(answer),
+            Some(answer) => tree_of(answer),
             None => match self.read(alloc, name)? {
                 Some(Ok(template)) => Ok(Some(template)),
                 Some(Err(_)) => Ok(None),
@@ -246,7 +246,7 @@ where
             (language_of F.makes T.gives B.block) S.texts self.old.texts self.old.kept name.now }
     {
         match self.under(name) {
-            Some(answer) => kept_answer(answer),
+            Some(answer) => answer_of(answer),
             None => match self.read(alloc, name) {
                 Ok(Some(answer)) => answer,
                 Ok(None) => Err(self.texts.unknown(alloc, name)),
@@ -258,7 +258,7 @@ where
 
 /// Returns what has to be kept for a name, and `None` if the source doesn't have the name. It returns `Err` exactly if
 /// memory runs out while it reads the text.
-fn kept_of<S, F, T, B>(
+fn parse_for_store<S, F, T, B>(
     alloc: Global,
     texts: &mut Texts<S, F, T, B>,
     name: &str,
@@ -310,7 +310,7 @@ fn keep<X: Filter, T: Meant + Drop, B: Meant + Drop>(
 }
 
 /// Returns what is kept, as an owned result.
-fn kept_answer<X: Filter, T: Meant + Drop, B: Meant + Drop>(
+fn answer_of<X: Filter, T: Meant + Drop, B: Meant + Drop>(
     kept: &Kept<X, T, B>,
 ) -> Result<Rc<Template<X, T, B>>, Error>
     ensures { Gives (shared_nodes X.shape T.shape B.shape) result (kept_as (shared_nodes X.shape T.shape B.shape) kept.now) }
@@ -322,7 +322,7 @@ fn kept_answer<X: Filter, T: Meant + Drop, B: Meant + Drop>(
 }
 
 /// Returns the template that is kept, or `None` for a fault.
-fn kept_tree<X: Filter, T: Meant + Drop, B: Meant + Drop>(
+fn tree_of<X: Filter, T: Meant + Drop, B: Meant + Drop>(
     kept: &Kept<X, T, B>,
 ) -> Result<Option<Rc<Template<X, T, B>>>, AllocError>
     ensures { IfOk result
@@ -336,7 +336,7 @@ fn kept_tree<X: Filter, T: Meant + Drop, B: Meant + Drop>(
 }
 
 /// Returns a copy of what has to be kept.
-fn copied<X: Filter, T: Meant + Drop, B: Meant + Drop>(
+fn copy_kept<X: Filter, T: Meant + Drop, B: Meant + Drop>(
     kept: &Kept<X, T, B>,
 ) -> Result<Kept<X, T, B>, AllocError>
     ensures { IfOk result

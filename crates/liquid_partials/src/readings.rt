@@ -172,12 +172,12 @@ fn parse_shared<F: ParseFilter + Drop, T: ParseTag<F> + Drop, B: ParseBlock<F> +
     ensures { Gives (shared_nodes F.Filter.shape T.Node.shape B.Node.shape) result
         (as_tree (reading (language_of F.makes T.gives B.block language.now) text.now)) }
 {
-    let template = parsed(alloc, text, language)?;
+    let template = parse_text(alloc, text, language)?;
     Ok(Rc::new(alloc, template)?)
 }
 
 /// Returns the template of a text, or the text's fault.
-fn parsed<F: ParseFilter + Drop, T: ParseTag<F> + Drop, B: ParseBlock<F> + Drop>(
+fn parse_text<F: ParseFilter + Drop, T: ParseTag<F> + Drop, B: ParseBlock<F> + Drop>(
     alloc: Global,
     text: &str,
     language: &Language<F, T, B>,

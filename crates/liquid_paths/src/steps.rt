@@ -74,8 +74,8 @@ fn item_asked<'v>(items: &'v [Value], word: &str) -> Option<ValueCow<'v>>
     ensures in_place { IfSome result InPlace }
 {
     match word {
-        "first" => borrowed(item_at(items, 0)),
-        "last" => borrowed(item_at(items, -1)),
+        "first" => borrow_item(item_at(items, 0)),
+        "last" => borrow_item(item_at(items, -1)),
         "size" => Some(number(items.len())),
         _ => None,
     }
@@ -114,7 +114,7 @@ fn item_at(items: &[Value], index: i64) -> Option<&Value>
     }
 }
 
-fn borrowed(item: Option<&Value>) -> Option<ValueCow<'_>>
+fn borrow_item(item: Option<&Value>) -> Option<ValueCow<'_>>
     ensures gives { option_map cow_view result ≡ option_map (λ x. view x.now) item.entry }
     ensures in_place { IfSome result InPlace }
 {

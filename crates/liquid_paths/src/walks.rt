@@ -102,14 +102,14 @@ pub fn find_after<'v>(
         let index = &path[place];
         at = match step_on(alloc, &at, index)? {
             Some(next) => next,
-            None => return Err(unknown_index(alloc, &path[..place], at.as_view(), index)),
+            None => return Err(unknown_index_error(alloc, &path[..place], at.as_view(), index)),
         };
     }
     Ok(at)
 }
 
 /// Returns the error for an index that the value after the front does not have.
-fn unknown_index(
+fn unknown_index_error(
     alloc: Global,
     front: &[ScalarCow<'_>],
     value: &Value,

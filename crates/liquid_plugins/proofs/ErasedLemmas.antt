@@ -8,21 +8,18 @@ use Rattle.liquid_scalar.specs.meaning.Scalar.{render_scalar}
 use Rattle.liquid_value.specs.meaning.Parts.{as_scalar}
 use Rattle.liquid_error.specs.meaning.Refusal.{ok_then}
 use Rattle.liquid_runtime.specs.meaning.Erased.{erase, without_names}
+use Rattle.liquid_runtime.specs.meaning.Leniency.{is_lenient}
 use Rattle.liquid_runtime.specs.meaning.View.{View}
 use Rattle.liquid_runtime.specs.meaning.NamesSeen.{upper_names, floor_names, is_sealed}
 use Rattle.liquid_runtime.specs.meaning.Lookup.{try_path, found, or_nil, sealed_answer, unknown_variable}
 use Rattle.liquid_paths.specs.meaning.Walk.{Path, walk, find_after}
 use Rattle.liquid_plugins.specs.meaning.Expression.{ExpressionShape, literal, variable, Indexes, no_indexes, index}
-use Rattle.liquid_plugins.specs.meaning.Evaluation.{evaluate, path_of, expected_scalar, try_evaluate, try_path_of}
+use Rattle.liquid_plugins.specs.meaning.Evaluation.{at_path, evaluate, path_of, expected_scalar, try_evaluate, try_path_of}
 
 shown_erased : (b : Bool) (globals : Option Names) → cond b (unwrap_or (cond b globals (without_names globals)) empty) empty ≡ cond b
     (unwrap_or globals empty) empty
 shown_erased true globals = refl
 shown_erased false globals = refl
-
-ok_then-same : {A B : Type 0} (r : Result A Refusal) (f g : A → Result B Refusal) → ((x : A) → f x ≡ g x) → ok_then r f ≡ ok_then r g
-ok_then-same (Ok x) f g e = e x
-ok_then-same (Err refusal) f g e = refl
 
 and_then-same : {A B : Type 0} (o : Option A) (f g : A → Option B) → ((x : A) → f x ≡ g x) → option_and_then f o ≡ option_and_then g o
 and_then-same None f g e = refl
@@ -35,19 +32,22 @@ module _ {Reg : Type 0} where
   pub found_erased : (v : View Reg) (path : Path) → found (erase v) path ≡ found v path
   found_erased v [] = refl
   found_erased v (name ∷ path) =
-      ap (λ (upper : Names). or_nil v.lenient (ok_then (ok_or (get (over upper (floor_names v)) (render_scalar name))
+      ap (λ (upper : Names). or_nil (is_lenient v.lenient) (ok_then (ok_or (get (over upper (floor_names v)) (render_scalar name))
       (unknown_variable (render_scalar name)))
       (λ t. sealed_answer (is_sealed v.floor && is_none (get upper (render_scalar name))) (render_scalar name)
       (find_after (name ∷ []) t path))))
       (upper_erased v)
 
+  at_erased : (v : View Reg) (r : Result Path Refusal) → at_path (erase v) r ≡ at_path v r
+  at_erased v (Ok path) = found_erased v path
+  at_erased v (Err refusal) = refl
+
   mutual
     pub evaluate_erased : (v : View Reg) (e : ExpressionShape) → evaluate (erase v) e ≡ evaluate v e
     evaluate_erased v (literal t) = refl
     evaluate_erased v (variable name is) =
-        ap (λ r. ok_then r (λ path. found (erase v) (name ∷ path))) (path_erased v is)
-        ∙ ok_then-same (path_of v is) (λ path. found (erase v) (name ∷ path)) (λ path. found v (name ∷ path))
-        (λ path. found_erased v (name ∷ path))
+        ap (λ r. at_path (erase v) (ok_then r (λ path. Ok (name ∷ path)))) (path_erased v is)
+        ∙ at_erased v (ok_then (path_of v is) (λ path. Ok (name ∷ path)))
 
     path_erased : (v : View Reg) (is : Indexes) → path_of (erase v) is ≡ path_of v is
     path_erased v no_indexes = refl

@@ -93,7 +93,8 @@ fn loop_member<'c, R: Runtime>(
     _runtime: &'c R,
 ) -> Option<ValueCow<'c>>
     ensures gives { IfSome result (λ found.
-        option_and_then (λ path. walk (forloop counts.place counts.size) path) (try_path_of (R.view _runtime.now) (expressions_of indexes.now.items))
+        option_and_then (λ path. walk (forloop counts.place counts.size) path)
+        (try_path_of (R.view _runtime.now) (expressions_of indexes.now.items))
         ≡ Some (cow_view found)) }
     ensures in_place { IfSome result InPlaceOrMade }
 {
@@ -118,8 +119,8 @@ fn only_word(indexes: &Vec<Expression>) -> Option<&str>
 /// Returns the member of an object `forloop` of that name.
 #[tactic(auto, using(crate::proofs::BorrowedValues::member_leads))]
 fn member_at(counts: Counts, word: &str) -> Option<Value>
-    ensures walks { IfSome result (λ part. literal_walk (forloop counts.place counts.size) (index (literal (scalar (text word.now))) no_indexes)
-        ≡ Some (tree_of part)) }
+    ensures walks { IfSome result (λ part.
+        literal_walk (forloop counts.place counts.size) (index (literal (scalar (text word.now))) no_indexes) ≡ Some (tree_of part)) }
     ensures made { IfSome result (λ part. OfLoop (tree_of part)) }
 {
     let part = counts.member(word)?;
@@ -169,11 +170,11 @@ fn part_of<'v>(alloc: Global, value: &ValueCow<'v>, index: &Value) -> Option<Val
     let Value::Scalar(scalar) = index else {
         return None;
     };
-    stepped(alloc, value, &scalar.as_ref())
+    step_into(alloc, value, &scalar.as_ref())
 }
 
 /// Returns the part of a value at an index.
-fn stepped<'v>(alloc: Global, value: &ValueCow<'v>, index: &ScalarCow<'_>) -> Option<ValueCow<'v>>
+fn step_into<'v>(alloc: Global, value: &ValueCow<'v>, index: &ScalarCow<'_>) -> Option<ValueCow<'v>>
     ensures gives { IfSome result (λ part. step (cow_view value.now) (index_of index.now) ≡ Some (cow_view part)) }
     ensures in_place { InPlaceOrMade value.now → IfSome result InPlaceOrMade }
 {

@@ -1,5 +1,6 @@
 //! The evaluation of expressions over a runtime.
-ghost use Rattle.std.specs.Prelude.{ok_or, ◌≡◌, string_bytes, IfOk, IfSome, option_map};
+ghost use Rattle.std.specs.Prelude.{ok_or, ◌≡◌, string_bytes, Err, IfOk, IfSome, Result, option_map};
+ghost use Rattle.liquid_error.specs.meaning.Refusal.{Refusal};
 ghost use Rattle.liquid_error.specs.meaning.Told.{told, Gives};
 ghost use Rattle.liquid_scalar.specs.meaning.Scalar.{scal};
 ghost use Rattle.liquid_value.specs.meaning.Cow.{cow_view};
@@ -7,8 +8,10 @@ ghost use Rattle.liquid_value.specs.meaning.Parts.{as_scalar};
 ghost use Rattle.liquid_value.specs.meaning.View.{view as tree_of};
 ghost use Rattle.liquid_runtime.specs.meaning.Made.{InPlaceOrMade};
 ghost use Rattle.liquid_paths.specs.meaning.PathOf.{index_of, path_of};
+ghost use Rattle.liquid_paths.specs.meaning.Walk.{Path as IndexPath};
 ghost use Rattle.liquid_runtime.specs.meaning.InPlaceOrNil.{InPlaceOrNil};
-ghost use Rattle.liquid_plugins.specs.meaning.Evaluation.{Finds, evaluate, expected_scalar, try_evaluate, named_path, try_named_path};
+ghost use Rattle.liquid_plugins.specs.meaning.Evaluation.{Finds, at_path, evaluate, expected_scalar};
+ghost use Rattle.liquid_plugins.specs.meaning.Evaluation.{try_evaluate, named_path, try_named_path};
 ghost use Rattle.liquid_plugins.specs.meaning.ExpressionOf.{expression_of, expressions_of, name_of, own_indexes_of};
 
 use crate::borrowed::borrow_value;
@@ -93,10 +96,24 @@ fn evaluate<'c, R: Runtime>(
     match expression {
         Expression::Literal(value) => Ok(ValueCow::Borrowed(value)),
         Expression::Variable(variable) => {
-            let path = named_path(alloc, &variable.variable, &variable.indexes, runtime)?;
-            runtime.get(alloc, path.as_slice())
+            match named_path(alloc, &variable.variable, &variable.indexes, runtime) {
+                Ok(path) => runtime.get(alloc, path.as_slice()),
+                Err(error) => nil_or_error(error, runtime),
+            }
         }
     }
+}
+
+/// Returns nil in place of the error of an index, if the runtime is lenient in indexes.
+fn nil_or_error<'c, R: Runtime>(error: Error, runtime: &'c R) -> Result<ValueCow<'c>, Error>
+    ensures gives { (path : Result IndexPath Refusal) → IfSome (told error) (λ refusal. path ≡ Err refusal)
+        → Gives cow_view result (at_path (R.view runtime.now) path) }
+    ensures in_place { IfOk result InPlaceOrNil }
+{
+    if !error.is_memory() && runtime.leniency().includes_indexes() {
+        return Ok(ValueCow::Owned(Value::default()));
+    }
+    Err(error)
 }
 
 /// Returns the path of a name and of the values of the indexes, from left to right.
@@ -184,17 +201,17 @@ fn index_of<'c>(alloc: Global, value: ValueCow<'c>) -> Result<ScalarCow<'c>, Err
     match value {
         ValueCow::Borrowed(value) => match value {
             Value::Scalar(scalar) => Ok(scalar.as_ref()),
-            _ => Err(expected_scalar(alloc, value)),
+            _ => Err(expected_scalar_error(alloc, value)),
         },
         ValueCow::Owned(value) => match value {
             Value::Scalar(scalar) => Ok(owned_index(scalar)),
-            other => Err(expected_scalar(alloc, &other)),
+            other => Err(expected_scalar_error(alloc, &other)),
         },
     }
 }
 
 /// Returns the error for an index that is not a scalar.
-fn expected_scalar(alloc: Global, value: &Value) -> Error
+fn expected_scalar_error(alloc: Global, value: &Value) -> Error
     ensures { IfSome (told result) (λ r. r ≡ expected_scalar (tree_of value.now)) }
 {
     match ValueSource::new(value).to_string(alloc) {

@@ -1,5 +1,6 @@
 //! The laws of expressions, each as the contract of a function.
-ghost use Rattle.liquid_plugins.specs.laws.Laws.{EvaluateAgrees, EvaluateGives, EvaluatesErased, PathsAgree, PathsGive};
+ghost use Rattle.liquid_plugins.specs.laws.Laws.{EvaluateAgrees, EvaluateGives, EvaluatesErased};
+ghost use Rattle.liquid_plugins.specs.laws.Laws.{LenientEvaluateAgrees, PathsAgree, PathsGive};
 
 use liquid_runtime::Fresh;
 
@@ -15,6 +16,12 @@ pub fn evaluate_agrees_with_try_evaluate<V: Fresh>()
 #[tactic(auto, using(crate::proofs::Agreement::evaluate_gives))]
 pub fn evaluate_gives_what_is_tried<V: Fresh>()
     ensures { EvaluateGives V.Shape }
+{}
+
+/// If indexes are lenient, `evaluate` of an expression returns the value of `try_evaluate`, or nil if that returns none.
+#[tactic(auto, using(crate::proofs::Agreement::lenient_evaluate_agrees))]
+pub fn lenient_evaluate_agrees_with_try_evaluate<V: Fresh>()
+    ensures { LenientEvaluateAgrees V.Shape }
 {}
 
 /// If names are strict, `evaluate` of a variable returns a path exactly if `try_evaluate` has one, and then the same

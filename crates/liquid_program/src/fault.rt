@@ -18,7 +18,7 @@ pub enum Fault<'w> {
     /// The file at this path can't be read as text, or the folder at it can't be listed.
     #[error("liquid: cannot read {0}\n")]
     Unreadable(&'w str),
-    /// The same for a file in a folder.
+    /// The file at this path in a folder can't be read as text.
     #[error("liquid: cannot read {0}\n")]
     UnreadableInFolder(String),
     /// The page can't be written to the file at this path.

@@ -2,10 +2,10 @@
 ghost use Rattle.std.specs.Prelude.{◌≡◌, IfOk};
 ghost use Rattle.liquid_program.specs.meaning.ProgramLanguage.{plain_filters, plain_sense};
 
-use filter_strings::append;
 use liquid_core::Error;
 use liquid_core::model::Value;
 use liquid_core::parser::{ParameterReflection, PluginRegistry};
+use liquid_filters::string::append;
 use liquid_filters::{CallArguments, FilterKind, FilterPlugin, FilterRow, register_all};
 use std::alloc::{AllocError, Global};
 

@@ -99,7 +99,7 @@ fn span_of_failed<F: ParseFilter, T: TagReflection + Drop, B: ParseBlock<F> + Dr
         length: element.len(),
     };
     if let Some((name, index)) = variable_of(message) {
-        if let Some(span) = moved(find_variable(element, name, index), place) {
+        if let Some(span) = move_span(find_variable(element, name, index), place) {
             return Ok(span);
         }
         if let Some(span) = find_in_dividers(alloc, text, place, language, name, index)? {
@@ -108,7 +108,7 @@ fn span_of_failed<F: ParseFilter, T: TagReflection + Drop, B: ParseBlock<F> + Dr
     }
     if message.has_trace("Filter error") {
         let filter = find_filter(element, message.detail("filter").unwrap_or(""));
-        return Ok(moved(filter, place).unwrap_or(whole));
+        return Ok(move_span(filter, place).unwrap_or(whole));
     }
     Ok(whole)
 }
@@ -126,7 +126,7 @@ fn variable_of<'m>(message: Message<'m>) -> Option<(&'m str, Option<&'m str>)> {
 }
 
 /// Returns the span as part of the text in which its element begins at this place.
-fn moved(span: Option<Span>, place: usize) -> Option<Span> {
+fn move_span(span: Option<Span>, place: usize) -> Option<Span> {
     let span = span?;
     Some(Span {
         place: place.saturating_add(span.place),

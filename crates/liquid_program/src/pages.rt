@@ -88,8 +88,9 @@ fn write_each<'w, F: Folder, E: Write>(
     err: &mut E,
 ) -> u8
     ensures command { status ≢ 2 → result ≢ 2 }
-    ensures writes { WithGlobals (json_object pages.entry.options.decimals json.now) ⊤ (λ globals. WritesEach (asked_pages pages.entry) globals partials.now
-        (map string_bytes templates.now) (F.known files.old) (F.known files.new) status result) }
+    ensures writes { WithGlobals (json_object pages.entry.options.decimals json.now) ⊤ (λ globals.
+        WritesEach (asked_pages pages.entry) globals partials.now (map string_bytes templates.now)
+        (F.known files.old) (F.known files.new) status result) }
     ensures requests { F.requests files.new ≡ also (F.requests files.old) (map reading (map string_bytes templates.now)) }
     ensures first { status ≢ 0 → result ≡ status }
     ensures quiet { result ≡ 0 → err.new ≡ err.old }
@@ -118,8 +119,9 @@ fn write_one<'w, F: Folder>(
     files: &mut F,
 ) -> Result<(), Fault<'w>>
     ensures command { exit_status result ≢ 2 }
-    ensures writes { WithGlobals (json_object pages.entry.options.decimals json.now) ⊤ (λ globals. WritesOne (asked_pages pages.entry) globals partials.now
-        template.now (F.known files.old) (F.known files.new) (exit_status result)) }
+    ensures writes { WithGlobals (json_object pages.entry.options.decimals json.now) ⊤ (λ globals.
+        WritesOne (asked_pages pages.entry) globals partials.now template.now (F.known files.old) (F.known files.new)
+        (exit_status result)) }
     ensures requests { F.requests files.new ≡ also (F.requests files.old) (reading template.now ∷ []) }
 {
     let mut page = Vec::new(alloc);
@@ -176,7 +178,7 @@ fn execute_one<'w, F: Folder, K: Sink>(
 {
     let text = text_of(alloc, files, template)?;
     let globals = globals_of(alloc, pages.options.decimals, json, pages.globals)?;
-    let Ok(copy) = copied(partials) else {
+    let Ok(copy) = copy_partials(partials) else {
         return Err(Fault::Refused(Error::Memory));
     };
     let mut stopped_by = None;
@@ -203,7 +205,7 @@ fn execute_one<'w, F: Folder, K: Sink>(
     }
 }
 
-fn copied(partials: &Option<InMemorySource>) -> Result<Option<InMemorySource>, AllocError>
+fn copy_partials(partials: &Option<InMemorySource>) -> Result<Option<InMemorySource>, AllocError>
     ensures { IfOk result (λ copy. copy ≡ partials.now) }
 {
     match partials {

@@ -12,9 +12,9 @@ use crate::filters::{PlainFilters, plain_filters};
 use liquid_core::parser::Language;
 use liquid_core::partials::InMemorySource;
 use liquid_core::{Error, Object, Sink};
-use liquid_cycle::Marks;
 use liquid_filters::{FilterPlugin, StdKind, filters};
-use liquid_pages::{PageFrame, PageLimit, PageOptions, render_text};
+use liquid_pages::{Leniency, PageFrame, PageLimit, PageOptions, render_text};
+use liquid_std::marks::Marks;
 use liquid_std::{StdBlocks, StdTags};
 use liquid_tags::{Blocks, Tags};
 use std::alloc::{AllocError, Global};
@@ -157,7 +157,7 @@ fn page_options(options: Options) -> PageOptions
     PageOptions {
         frame: page_frame(standard, sandboxed),
         decimals,
-        lenient,
+        leniency: Leniency::of_paths(lenient),
         max_turns: limit_of(max_turns),
         max_bytes: limit_of(max_bytes),
     }

@@ -205,18 +205,18 @@ pub(crate) fn settle<'w>(
     ensures memory { IsMemory answer.entry → IsMemory result }
 {
     match (answer, flushed) {
-        (Ok(()) | Err(Fault::Explained(..)), Err(_)) => Err(failed(alloc)),
+        (Ok(()) | Err(Fault::Explained(..)), Err(_)) => Err(sink_fault(alloc)),
         (Err(Fault::Refused(error)), Err(_)) => if error.is_memory() {
             Err(Fault::Refused(error))
         } else {
-            Err(failed(alloc))
+            Err(sink_fault(alloc))
         },
         (answer, _) => answer,
     }
 }
 
 /// Returns the fault of a sink that fails.
-fn failed<'w>(alloc: Global) -> Fault<'w>
+fn sink_fault<'w>(alloc: Global) -> Fault<'w>
     ensures status { fault_status result ≡ 1 }
     ensures trouble { reported result ≡ None }
 {

@@ -11,6 +11,7 @@ use Rattle.liquid_value.specs.declared.cow.ValueCow.{ValueCow}
 use Rattle.liquid_value.specs.declared.cow.ValueCow.TheVariants.{Owned, Borrowed}
 use Rattle.liquid_runtime.specs.meaning.Made.{InPlaceOrMade}
 use Rattle.liquid_runtime.specs.meaning.InPlaceOrNil.{InPlaceOrNil}
+use Rattle.liquid_runtime.specs.meaning.Leniency.{is_lenient}
 use Rattle.liquid_runtime.specs.meaning.View.{View}
 use Rattle.liquid_runtime.specs.meaning.NamesSeen.{lookup, comes_from_seal}
 use Rattle.liquid_runtime.specs.meaning.Lookup.{try_path, found, strictly_found, or_nil, sealed_answer, unknown_variable}
@@ -43,19 +44,19 @@ module _ {Reg : Type 0} where
       ∙ find_after-agrees (name ∷ []) t path)
 
   -- in a strict view a path gives its value or its refusal
-  pub found_strict : (v : View Reg) (path : Path) → v.lenient ≡ false → found v path ≡ strictly_found v path
+  pub found_strict : (v : View Reg) (path : Path) → is_lenient v.lenient ≡ false → found v path ≡ strictly_found v path
   found_strict v path e = ap (λ lenient. or_nil lenient (strictly_found v path)) e ∙ strict_answer (strictly_found v path)
 
-  pub get_agrees : (v : View Reg) (path : Path) → v.lenient ≡ false → result_ok (found v path) ≡ try_path v path
+  pub get_agrees : (v : View Reg) (path : Path) → is_lenient v.lenient ≡ false → result_ok (found v path) ≡ try_path v path
   get_agrees v path e = ap result_ok (found_strict v path e) ∙ value_agrees v path
 
-  pub lenient_get_agrees : (v : View Reg) (path : Path) → v.lenient ≡ true → found v path ≡ Ok (unwrap_or (try_path v path) nil)
+  pub lenient_get_agrees : (v : View Reg) (path : Path) → is_lenient v.lenient ≡ true → found v path ≡ Ok (unwrap_or (try_path v path) nil)
   lenient_get_agrees v path e =
       ap (λ lenient. or_nil lenient (strictly_found v path)) e ∙ lenient_answer (strictly_found v path)
       ∙ ap (λ o. Ok (unwrap_or o nil)) (value_agrees v path)
 
   -- the empty path has no value
-  pub empty_refused : (v : View Reg) → v.lenient ≡ false → found v [] ≡ Err (unknown_variable (codes "nil"))
+  pub empty_refused : (v : View Reg) → is_lenient v.lenient ≡ false → found v [] ≡ Err (unknown_variable (codes "nil"))
   empty_refused v e = found_strict v [] e
 
 pub ruleset get_answers = (found_strict, empty_refused, lenient_get_agrees, in_place_or_nil)

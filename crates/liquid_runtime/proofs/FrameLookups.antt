@@ -16,6 +16,7 @@ use Rattle.liquid_runtime.specs.meaning.Roots.{NamesOf, NamesOver}
 use Rattle.liquid_runtime.specs.meaning.NamesSeen.{lookup, names_seen}
 use Rattle.liquid_runtime.specs.meaning.Frames.{begin_stack, begin_sandboxed}
 use Rattle.liquid_runtime.specs.steps.FrameViews.{core_with, indexed_view, assigned_view, sandboxed_with}
+use Rattle.liquid_runtime.specs.declared.leniency.Leniency.{Leniency}
 use Rattle.liquid_runtime.specs.declared.registers.Registers.{Registers}
 use Rattle.liquid_runtime.proofs.FrameLaws.{
   lookup_stack,
@@ -76,22 +77,22 @@ names_either m n k below set is over of q =
     over q ∙ ap (λ b. is_some (get m q) || b) (of q) ∙ some-either (get m q) (get n q) ∙ ap is_some (sym (is q))
 
 module _ {Reg : Type 0} where
-  pub lookup_core : (r : Registers Reg) (depth : ℕ) (lenient : Bool) (q : List ℕ) → lookup (core_with r depth lenient) q ≡ None
+  pub lookup_core : (r : Registers Reg) (depth : ℕ) (lenient : Leniency) (q : List ℕ) → lookup (core_with r depth lenient) q ≡ None
   lookup_core r depth lenient q =
       ap (λ m. get (over m no_names) q) (empty-over (over no_names no_names) ∙ empty-over no_names)
       ∙ ap (λ m. get m q) (empty-over no_names) ∙ nothing_there q
 
-  pub lookup_indexed : (variables : Names) (r : Registers Reg) (depth : ℕ) (lenient : Bool) (q : List ℕ)
+  pub lookup_indexed : (variables : Names) (r : Registers Reg) (depth : ℕ) (lenient : Leniency) (q : List ℕ)
       → lookup (indexed_view variables (core_with r depth lenient)) q ≡ get variables q
   lookup_indexed variables r depth lenient q =
       ap (λ m. get (over m variables) q) (empty-over (over no_names no_names) ∙ empty-over no_names)
       ∙ ap (λ m. get m q) (empty-over variables)
 
-  pub roots_core : (r : Registers Reg) (depth : ℕ) (lenient : Bool) (set : BTreeSet (String Global)) → IsEmpty set
+  pub roots_core : (r : Registers Reg) (depth : ℕ) (lenient : Leniency) (set : BTreeSet (String Global)) → IsEmpty set
       → NamesOf (names_seen (core_with r depth lenient)) set
   roots_core r depth lenient set none q = ap (λ ks. list_any (at_name q) ks) none ∙ ap is_some (sym (lookup_core r depth lenient q))
 
-  pub roots_indexed : (variables : Names) (r : Registers Reg) (depth : ℕ) (lenient : Bool) (below set : BTreeSet (String Global))
+  pub roots_indexed : (variables : Names) (r : Registers Reg) (depth : ℕ) (lenient : Leniency) (below set : BTreeSet (String Global))
       → NamesOver variables below set → NamesOf (names_seen (core_with r depth lenient)) below
       → NamesOf (names_seen (indexed_view variables (core_with r depth lenient))) set
   roots_indexed variables r depth lenient below set is of =

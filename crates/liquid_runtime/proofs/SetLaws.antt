@@ -9,10 +9,11 @@ use Rattle.std.specs.Cmp.Lexicographic.{slice_cmp, nat_list_cmp_total}
 use Rattle.std.specs.Cmp.{eq_by_cmp_equiv}
 use Rattle.std.specs.FinMap.{get, insert, empty, get-insert}
 use Rattle.liquid_value.specs.meaning.Tree.{Tree}
+use Rattle.liquid_runtime.specs.declared.leniency.Leniency.TheVariants.{Strict}
 use Rattle.liquid_runtime.specs.meaning.Maps.{Names, over}
 use Rattle.liquid_runtime.proofs.MapLaws.{get-over, names_apart}
 use Rattle.liquid_runtime.specs.meaning.View.{View, Floor, unsealed, sealed}
-use Rattle.liquid_runtime.specs.meaning.NamesSeen.{lookup, shown_globals, upper_names, floor_names, names_of_floor, names_seen}
+use Rattle.liquid_runtime.specs.meaning.NamesSeen.{lookup, shown_globals, upper_names, floor_names, names_of_floor}
 use Rattle.liquid_runtime.specs.meaning.Sets.{put_global, put_index}
 use Rattle.liquid_runtime.specs.laws.Laws.{
   SetGlobalKeepsOthers,
@@ -99,7 +100,7 @@ module _ {Reg : Type 0} where
       global_keeps (begin_stack globals None (begin_index (core_view fresh depth))) name
       ∙ lookup_stack globals None (begin_index (core_view fresh depth)) name
       ∙ ap (option_or (get globals name)) (lookup_indexed no_names
-      (record { interrupt = record { current = None }; value = fresh }) depth false name ∙ nothing_there name)
+      (record { interrupt = record { current = None }; value = fresh }) depth Strict name ∙ nothing_there name)
       ∙ or_none (get globals name)
 
   pub isolated_shows : IsolatedFrameShowsItsNames Reg

@@ -1,4 +1,5 @@
 pub mod Maps
+pub mod Leniency
 pub mod View
 pub mod LoopNames
 pub mod NamesSeen

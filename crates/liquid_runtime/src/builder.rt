@@ -1,11 +1,14 @@
 //! A builder of runtimes.
-ghost use Rattle.std.specs.Prelude.{◌≡◌, [], false, None, Some};
+ghost use Rattle.std.specs.Prelude.{◌≡◌, [], None, Some};
 ghost use Rattle.std.specs.FinMap.{empty};
 ghost use Rattle.liquid_runtime.specs.meaning.Frames.{built_view, leniently};
 ghost use Rattle.liquid_runtime.specs.meaning.Maps.{names_of};
+ghost use Rattle.liquid_runtime.specs.meaning.Leniency.{lenient_paths};
+ghost use Rattle.liquid_runtime.specs.declared.leniency.Leniency.TheVariants.{Strict};
 
 use crate::global_frame::GlobalFrame;
 use crate::index_frame::IndexFrame;
+use crate::leniency::Leniency;
 use crate::registers::Fresh;
 use crate::runtime::Runtime;
 use crate::runtime_core::{DEFAULT_DEPTH, RuntimeCore};
@@ -35,7 +38,7 @@ pub struct RuntimeBuilder<V, S> {
     globals: Object,
     store: Option<S>,
     depth: u32,
-    lenient: bool,
+    lenient: Leniency,
     register: PhantomData<V>,
 }
 
@@ -49,14 +52,14 @@ impl<V: Fresh, S: Drop> RuntimeBuilder<V, S> {
         ensures globals { globals_of result ≡ empty }
         ensures store { store_of result ≡ None }
         ensures depth { depth_of result ≡ 32 }
-        ensures lenient { lenient_of result ≡ false }
+        ensures lenient { lenient_of result ≡ Strict }
     {
         RuntimeBuilder {
             alloc,
             globals: Object::new(alloc),
             store: None,
             depth: DEFAULT_DEPTH,
-            lenient: false,
+            lenient: Leniency::Strict,
             register: PhantomData,
         }
     }
@@ -99,9 +102,20 @@ impl<V: Fresh, S: Drop> RuntimeBuilder<V, S> {
         ensures globals { globals_of result ≡ globals_of self }
         ensures store { store_of result ≡ store_of self }
         ensures depth { depth_of result ≡ depth_of self }
-        ensures lenient { lenient_of result ≡ lenient }
+        ensures lenient { lenient_of result ≡ lenient_paths lenient }
     {
-        self.lenient = lenient;
+        self.lenient = Leniency::of_paths(lenient);
+        self
+    }
+
+    /// Sets what a path without a value, and an index that is not a scalar, lead to.
+    pub fn set_leniency(mut self, leniency: Leniency) -> Self
+        ensures globals { globals_of result ≡ globals_of self }
+        ensures store { store_of result ≡ store_of self }
+        ensures depth { depth_of result ≡ depth_of self }
+        ensures lenient { lenient_of result ≡ leniency }
+    {
+        self.lenient = leniency;
         self
     }
 

@@ -4,6 +4,7 @@ ghost use Rattle.liquid_runtime.specs.meaning.Frames.{begin_global, restored_by,
 ghost use Rattle.liquid_runtime.specs.steps.FrameViews.{assigned_view};
 ghost use Rattle.liquid_runtime.specs.meaning.Maps.{names_of};
 
+use crate::leniency::Leniency;
 use crate::loop_frame::Seen;
 use crate::names::{add_names, seen_of, set_name, value_of};
 use crate::registers::Registers;
@@ -117,7 +118,7 @@ impl<P: Runtime> Runtime for GlobalFrame<P> {
         self.parent.depth()
     }
 
-    fn is_lenient(&self) -> bool {
-        self.parent.is_lenient()
+    fn leniency(&self) -> Leniency {
+        self.parent.leniency()
     }
 }

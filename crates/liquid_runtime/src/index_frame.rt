@@ -5,6 +5,7 @@ ghost use Rattle.liquid_runtime.specs.meaning.Calls.{shaped};
 ghost use Rattle.liquid_runtime.specs.steps.FrameViews.{core_with, indexed_view};
 ghost use Rattle.liquid_runtime.specs.meaning.Maps.{names_of};
 
+use crate::leniency::Leniency;
 use crate::loop_frame::Seen;
 use crate::names::{add_names, seen_of, set_name, value_of};
 use crate::registers::{Fresh, Registers};
@@ -112,7 +113,7 @@ impl<V: Fresh, S: Drop> Runtime for IndexFrame<V, S> {
         self.parent.depth()
     }
 
-    fn is_lenient(&self) -> bool {
-        self.parent.is_lenient()
+    fn leniency(&self) -> Leniency {
+        self.parent.leniency()
     }
 }

@@ -5,6 +5,7 @@ mod builder;
 mod global_frame;
 mod index_frame;
 mod laws;
+mod leniency;
 mod listed;
 mod loop_frame;
 mod loop_item;
@@ -25,6 +26,7 @@ pub use laws::{
     lenient_get_agrees_with_try_get, roots_are_the_names_seen, set_global_changes_no_other_name,
     set_index_changes_no_other_name, stack_names_first,
 };
+pub use leniency::Leniency;
 pub use listed::Listed;
 pub use loop_frame::{Counts, LoopFrame, Seen};
 pub use loop_item::LoopItem;

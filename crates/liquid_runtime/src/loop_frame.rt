@@ -6,7 +6,8 @@ ghost use Rattle.liquid_value.specs.meaning.Members.{get_member, put_member};
 ghost use Rattle.liquid_value.specs.meaning.View.{view as tree_of, members_view};
 ghost use Rattle.liquid_runtime.specs.meaning.Maps.{names_of};
 ghost use Rattle.liquid_runtime.specs.meaning.Roots.{NamesOver};
-ghost use Rattle.liquid_runtime.specs.meaning.LoopNames.{forloop, forloop_members, item_tree, loop_names, names_of_item, place_tree, seen_tree};
+ghost use Rattle.liquid_runtime.specs.meaning.LoopNames.{forloop, forloop_members, item_tree, loop_names};
+ghost use Rattle.liquid_runtime.specs.meaning.LoopNames.{names_of_item, place_tree, seen_tree};
 
 use crate::loop_item::LoopItem;
 use crate::names::{add_names, no_names};
@@ -100,7 +101,8 @@ impl Counts {
 
 /// Inserts a count. If it does not fit, the error is out of memory: no memory holds that many items.
 fn put_count(alloc: Global, object: &mut Object, name: &str, count: u64) -> Result<(), AllocError>
-    ensures { IfOk result (λ _. members_view object.new.entries ≡ put_member name.now (place_tree count) (members_view object.old.entries)) }
+    ensures { IfOk result (λ _.
+        members_view object.new.entries ≡ put_member name.now (place_tree count) (members_view object.old.entries)) }
 {
     match i64::try_from(count) {
         Ok(number) => put(alloc, object, name, Value::scalar(number)),

@@ -1,9 +1,11 @@
 //! The trait of what a template sees and changes while it is rendered.
-ghost use Rattle.std.specs.Prelude.{◌≡◌, ℕ, List, ◌∷◌, Option, Some, IsSome, IfOk, IfSome, OnOk, OnErr, string_bytes, option_map, take, drop};
+ghost use Rattle.std.specs.Prelude.{◌≡◌, ℕ, List, ◌∷◌, Option, Some, IsSome, IfOk};
+ghost use Rattle.std.specs.Prelude.{IfSome, OnOk, OnErr, string_bytes, option_map, take, drop};
 ghost use Rattle.std.specs.Borrow.{sem, LendsIf};
 ghost use denote.Ref.{at_last};
 ghost use Rattle.liquid_error.specs.meaning.Told.{told, Gives};
 ghost use Rattle.liquid_paths.specs.meaning.Walk.{walk, find_after};
+ghost use Rattle.liquid_runtime.specs.meaning.Leniency.{is_lenient};
 ghost use Rattle.liquid_runtime.specs.meaning.LoopNames.{forloop, seen_tree};
 ghost use Rattle.liquid_runtime.specs.meaning.Made.{InPlaceOrMade, OfLoop};
 ghost use Rattle.liquid_paths.specs.meaning.PathOf.{indexes_of};
@@ -18,6 +20,7 @@ ghost use Rattle.liquid_runtime.specs.meaning.Roots.{NamesOf};
 ghost use Rattle.liquid_runtime.specs.meaning.Sets.{old_global, put_global, old_index, put_index};
 ghost use Rattle.liquid_runtime.specs.meaning.View.{View};
 
+use crate::leniency::Leniency;
 use crate::loop_frame::{Counts, Seen};
 use crate::registers::{Fresh, Registers};
 use liquid_error::Error;
@@ -113,16 +116,16 @@ pub trait Runtime {
             };
         }
         match path.split_first() {
-            None => Err(unknown_variable(alloc, "nil")),
+            None => Err(unknown_variable_error(alloc, "nil")),
             Some((first, _)) => match first.to_kstr(alloc) {
                 Err(_) => Err(Error::Memory),
                 Ok(name) => match self.try_get_name(name.as_str()) {
-                    None => Err(unknown_variable(alloc, name.as_str())),
+                    None => Err(unknown_variable_error(alloc, name.as_str())),
                     Some(seen) => match find_after_seen(alloc, seen, path) {
                         Ok(found) => Ok(found),
                         Err(error) => {
                             if !error.is_memory() && self.seals(name.as_str()) {
-                                Err(unknown_variable(alloc, name.as_str()))
+                                Err(unknown_variable_error(alloc, name.as_str()))
                             } else {
                                 Err(error)
                             }
@@ -184,9 +187,16 @@ pub trait Runtime {
     fn depth(&self) -> u32
         ensures { result ≡ (view self.now).depth };
 
+    /// Returns what a path without a value, and an index that is not a scalar, lead to. It takes no memory.
+    fn leniency(&self) -> Leniency
+        ensures { result ≡ (view self.now).lenient };
+
     /// Returns `true` if `get` returns nil for a path without a value, instead of an error. It takes no memory.
     fn is_lenient(&self) -> bool
-        ensures { result ≡ (view self.now).lenient };
+        ensures { result ≡ is_lenient (view self.now).lenient }
+    {
+        self.leniency().is_lenient()
+    }
 }
 
 impl<R: Runtime> Runtime for &mut R {
@@ -250,8 +260,8 @@ impl<R: Runtime> Runtime for &mut R {
         (**self).depth()
     }
 
-    fn is_lenient(&self) -> bool {
-        (**self).is_lenient()
+    fn leniency(&self) -> Leniency {
+        (**self).leniency()
     }
 }
 
@@ -296,7 +306,8 @@ fn find_after_seen<'v>(
     seen: Seen<'v>,
     path: &[ScalarCow<'_>],
 ) -> Result<ValueCow<'v>, Error>
-    ensures gives { Gives cow_view result (find_after (indexes_of (take 1 path.now)) (seen_tree seen.entry) (indexes_of (drop 1 path.now))) }
+    ensures gives { Gives cow_view result
+        (find_after (indexes_of (take 1 path.now)) (seen_tree seen.entry) (indexes_of (drop 1 path.now))) }
     ensures in_place { IfOk result InPlaceOrMade }
 {
     match seen {
@@ -321,7 +332,7 @@ fn loop_part_after(alloc: Global, counts: Counts, path: &[ScalarCow<'_>]) -> Res
 }
 
 /// Returns the error for a name that has no value.
-fn unknown_variable(alloc: Global, name: &str) -> Error
+fn unknown_variable_error(alloc: Global, name: &str) -> Error
     ensures { IfSome (told result) (λ refusal. refusal ≡ unknown_variable_refusal name.now) }
 {
     Error::with_msg(alloc, "Unknown variable").context(alloc, "requested variable", name)

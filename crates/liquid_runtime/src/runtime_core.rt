@@ -4,6 +4,7 @@ ghost use Rattle.liquid_runtime.specs.meaning.Frames.{core_view, leniently};
 ghost use Rattle.liquid_runtime.specs.meaning.Calls.{shaped};
 ghost use Rattle.liquid_runtime.specs.steps.FrameViews.{core_with};
 
+use crate::leniency::Leniency;
 use crate::loop_frame::Seen;
 use crate::registers::{Fresh, Registers};
 use crate::runtime::Runtime;
@@ -21,7 +22,7 @@ pub struct RuntimeCore<V, S> {
     registers: Registers<V>,
     store: Option<S>,
     depth: u32,
-    lenient: bool,
+    lenient: Leniency,
 }
 
 impl<V: Fresh, S: Drop> RuntimeCore<V, S> {
@@ -30,11 +31,11 @@ impl<V: Fresh, S: Drop> RuntimeCore<V, S> {
         ensures view { ⟦<RuntimeCore<V, S> as Runtime>⟧.view result ≡ core_view V.fresh 32 }
         ensures store { ⟦<RuntimeCore<V, S> as Runtime>⟧.store result ≡ None }
     {
-        RuntimeCore::with(None, DEFAULT_DEPTH, false)
+        RuntimeCore::with(None, DEFAULT_DEPTH, Leniency::Strict)
     }
 
-    /// Returns a core over this store, on which that many partials may be nested, lenient or not.
-    pub(crate) fn with(store: Option<S>, depth: u32, lenient: bool) -> Self
+    /// Returns a core over this store, on which that many partials may be nested, of this leniency.
+    pub(crate) fn with(store: Option<S>, depth: u32, lenient: Leniency) -> Self
         ensures view { ⟦<RuntimeCore<V, S> as Runtime>⟧.view result ≡ leniently lenient (core_view V.fresh depth) }
         ensures store { ⟦<RuntimeCore<V, S> as Runtime>⟧.store result ≡ store }
     {
@@ -137,7 +138,7 @@ impl<V: Fresh, S: Drop> Runtime for RuntimeCore<V, S> {
         self.depth
     }
 
-    fn is_lenient(&self) -> bool {
+    fn leniency(&self) -> Leniency {
         self.lenient
     }
 }

@@ -5,6 +5,7 @@ ghost use Rattle.liquid_runtime.specs.meaning.Frames.{begin_sandboxed, restored_
 ghost use Rattle.liquid_runtime.specs.steps.FrameViews.{sandboxed_with};
 ghost use Rattle.liquid_runtime.specs.meaning.Maps.{names_of};
 
+use crate::leniency::Leniency;
 use crate::loop_frame::Seen;
 use crate::names::{add_names, own_name, seen_of, value_of};
 use crate::registers::Registers;
@@ -122,7 +123,7 @@ impl<P: Runtime> Runtime for SandboxedStackFrame<P> {
         self.parent.depth()
     }
 
-    fn is_lenient(&self) -> bool {
-        self.parent.is_lenient()
+    fn leniency(&self) -> Leniency {
+        self.parent.leniency()
     }
 }

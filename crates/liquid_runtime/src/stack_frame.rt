@@ -4,6 +4,7 @@ ghost use Rattle.liquid_runtime.specs.meaning.Calls.{named};
 ghost use Rattle.liquid_runtime.specs.meaning.Frames.{begin_stack, restored_by, stack_frame};
 ghost use Rattle.liquid_runtime.specs.meaning.Maps.{names_of};
 
+use crate::leniency::Leniency;
 use crate::loop_frame::Seen;
 use crate::names::{add_names, own_name, seen_of, value_of};
 use crate::registers::Registers;
@@ -137,7 +138,7 @@ impl<P: Runtime> Runtime for StackFrame<P> {
         self.parent.depth()
     }
 
-    fn is_lenient(&self) -> bool {
-        self.parent.is_lenient()
+    fn leniency(&self) -> Leniency {
+        self.parent.leniency()
     }
 }

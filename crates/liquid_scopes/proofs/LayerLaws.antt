@@ -43,6 +43,10 @@ below_seam : {X : Type 0} (before after : List X) (x : X) → length before < le
 below_seam [] after x = omega arith
 below_seam (y ∷ before) after x = let h = below_seam before after x in omega arith
 
+-- registers that are the same already
+pub same_registers : {Reg : Type 0} (v u : View Reg) → registers_of u ≡ registers_of v → with_registers (registers_of v) u ≡ u
+same_registers v u e = ap (λ r. with_registers r u) (sym e)
+
 module _ {V : Type 0} where
   plain_push : (ls : List (Layer V)) (l : Layer V) → Plain ls → is_global l ≡ false → Plain (ls ++ l ∷ [])
   plain_push [] l p e = (e, tt)
@@ -121,6 +125,12 @@ module _ {V Reg : Type 0} where
   pub shown_push : (v : View Reg) (ls : List (Layer V)) (l : Layer V) → shown_over v (ls ++ l ∷ []) ≡ layer_view l (shown_over v ls)
   shown_push v [] l = refl
   shown_push v (m ∷ ls) l = shown_push (layer_view m v) ls l
+
+  -- one more frame
+  pub shown_more : {X : Type 0} (f : X → Layer V) (v : View Reg) (xs ys : List X) (x : X) → ys ≡ xs ++ x ∷ []
+      → shown_over v (map f ys) ≡ layer_view (f x) (shown_over v (map f xs))
+  shown_more f v xs ys x e =
+      ap (λ zs. shown_over v (map f zs)) e ∙ ap (shown_over v) (map_append f xs (x ∷ [])) ∙ shown_push v (map f xs) (f x)
 
   index_link : (l : Layer V) (v : View Reg) (q : List ℕ) (x : Tree) → layer_view l (put_index v q x) ≡ put_index (layer_view l v) q x
   index_link none_layer v q x = refl
@@ -287,6 +297,12 @@ module _ {V Reg : Type 0} (shape : V → Reg) where
       → restoring shape v (ls ++ l ∷ []) rs ≡ layer_restores shape l (shown_over v ls) ∷ restoring shape v ls rs
   restoring_push v [] l rs = refl
   restoring_push v (m ∷ ls) l rs = restoring_push (layer_view m v) ls l (layer_restores shape m v ∷ rs)
+
+  pub owed_more : {X : Type 0} (f : X → Layer V) (v : View Reg) (xs ys : List X) (x : X) (rs : List (Restore Reg)) → ys ≡ xs ++ x ∷ []
+      → restoring shape v (map f ys) rs ≡ layer_restores shape (f x) (shown_over v (map f xs)) ∷ restoring shape v (map f xs) rs
+  owed_more f v xs ys x rs e =
+      ap (λ zs. restoring shape v (map f zs) rs) e ∙ ap (λ ls. restoring shape v ls rs) (map_append f xs (x ∷ []))
+      ∙ restoring_push v (map f xs) (f x) rs
 
   index_restores : (l : Layer V) (v : View Reg) (q : List ℕ) (x : Tree)
       → layer_restores shape l (put_index v q x) ≡ layer_restores shape l v

@@ -11,7 +11,7 @@ use crate::link::{Link, closing, opening};
 use crate::links::{name_over, roots_over};
 use liquid_error::Error;
 use liquid_runtime::names::{seen_of, value_of};
-use liquid_runtime::{Frame, Fresh, LoopFrame, Registers, Runtime, Scopes, Seen};
+use liquid_runtime::{Frame, Fresh, Leniency, LoopFrame, Registers, Runtime, Scopes, Seen};
 use liquid_value::Value;
 use std::alloc::{AllocError, Global};
 use std::collections::BTreeSet;
@@ -62,7 +62,7 @@ impl<R: Runtime> Runtime for ChainedScopes<R> {
     fn try_get_name(&self, name: &str) -> Option<Seen<'_>> {
         let mut found = self.base.try_get_name(name);
         for link in &self.links {
-            found = link.found(name, found);
+            found = link.find_name(name, found);
         }
         found
     }
@@ -107,8 +107,8 @@ impl<R: Runtime> Runtime for ChainedScopes<R> {
         self.base.depth()
     }
 
-    fn is_lenient(&self) -> bool {
-        self.base.is_lenient()
+    fn leniency(&self) -> Leniency {
+        self.base.leniency()
     }
 }
 
@@ -158,7 +158,7 @@ impl<R: Runtime> Scopes for ChainedScopes<R> {
 // A walk over all links looks in each of them, so only chained scopes have one.
 impl<V> Link<V> {
     #[tactic(auto, using(liquid_runtime::proofs::FrameLookups::own_first))]
-    fn found<'a>(&'a self, name: &str, below: Option<Seen<'a>>) -> Option<Seen<'a>>
+    fn find_name<'a>(&'a self, name: &str, below: Option<Seen<'a>>) -> Option<Seen<'a>>
         ensures { option_map seen_tree result
             ≡ layer_found (layer_of self.now) name.now (option_map seen_tree below.entry) }
     {

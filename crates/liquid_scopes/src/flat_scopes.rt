@@ -1,17 +1,21 @@
 //! Scopes that find a name in at most two frame lookups.
-ghost use Rattle.std.specs.Prelude.{◌≡◌, ◌≤◌, ◌<◌, ◌+◌, ◌^◌, ◌∷◌, ℕ, IfOk, IfSome, option_map};
+ghost use Rattle.std.specs.Prelude.{◌≡◌, ◌≤◌, ◌<◌, ◌+◌, ◌^◌, ◌∷◌, ◌++◌, [], false, ℕ, IfOk, IfErr, OnOk, OnErr, IfSome, None, option_map};
+ghost use Rattle.liquid_error.specs.meaning.Told.{told};
+ghost use Rattle.liquid_runtime.specs.meaning.Calls.{frame_of};
 ghost use Rattle.liquid_runtime.specs.meaning.Made.{InPlaceOrMade};
 ghost use Rattle.liquid_paths.specs.meaning.PathOf.{indexes_of};
 ghost use Rattle.liquid_value.specs.meaning.Cow.{cow_view};
-ghost use Rattle.liquid_runtime.specs.meaning.Frames.{scope_base};
+ghost use Rattle.liquid_runtime.specs.meaning.Frames.{scope_base, beginning, restored_by};
 ghost use Rattle.liquid_runtime.specs.meaning.Lookup.{try_path};
-ghost use Rattle.liquid_scopes.specs.steps.Layers.{shown_over, restoring};
-ghost use Rattle.liquid_scopes.specs.steps.LinkLayers.{layers_of};
+ghost use Rattle.liquid_scopes.specs.steps.Layers.{shown_over, restoring, is_global};
+ghost use Rattle.liquid_scopes.specs.steps.Standing.{is_sandboxed};
+ghost use Rattle.liquid_scopes.specs.steps.LinkLayers.{layer_of, layers_of};
 
-use crate::link::{closing, opening};
-use crate::table::{Table, look_up};
+use crate::link::{Link, Taken, closing, opening};
+use crate::table::Table;
+use crate::table::name_lookup::look_up;
 use liquid_error::Error;
-use liquid_runtime::{Frame, LoopFrame, Registers, Runtime, Scopes, Seen, find_seen};
+use liquid_runtime::{Frame, Leniency, LoopFrame, Registers, Runtime, Scopes, Seen, find_seen};
 use liquid_scalar::ScalarCow;
 use liquid_value::{Value, ValueCow};
 use std::alloc::{AllocError, Global};
@@ -114,6 +118,45 @@ impl<R: Runtime> FlatScopes<R> {
             }
         }
     }
+
+    /// Begins the frame of a link that is neither sandboxed nor global. It is dropped if memory runs out.
+    #[inline(always)]
+    fn push_plain(&mut self, link: Link<R::Register>) -> Result<(), Error>
+        requires not_sandboxed { is_sandboxed (layer_of link) ≡ false }
+        requires not_global { is_global (layer_of link) ≡ false }
+        ensures added { OnOk result (self.new.table.links.items ≡ self.old.table.links.items ++ link ∷ []) }
+        ensures err { IfErr result (λ e. told e ≡ None) }
+        ensures unchanged { OnErr result (self.new.table.links.items ≡ self.old.table.links.items) }
+        ensures base { self.new.base ≡ self.old.base }
+    {
+        if self.table.add_plain(self.alloc, link) {
+            Ok(())
+        } else {
+            Err(Error::Memory)
+        }
+    }
+
+    /// Begins any frame, as `push` does.
+    fn push_other(&mut self, frame: Frame) -> Result<(), Error>
+        ensures ok { OnOk result (⟦<FlatScopes<R> as Runtime>⟧.view self.new
+            ≡ beginning R.Register.fresh (frame_of frame) (⟦<FlatScopes<R> as Runtime>⟧.view self.old)) }
+        ensures opens { OnOk result (⟦<FlatScopes<R> as Runtime>⟧.restores self.new
+            ≡ restored_by (frame_of frame) (⟦<FlatScopes<R> as Runtime>⟧.view self.old) ∷ ⟦<FlatScopes<R> as Runtime>⟧.restores self.old) }
+        ensures err { IfErr result (λ e. told e ≡ None) }
+        ensures unchanged { OnErr result (⟦<FlatScopes<R> as Runtime>⟧.view self.new ≡ ⟦<FlatScopes<R> as Runtime>⟧.view self.old) }
+        ensures owes { OnErr result (⟦<FlatScopes<R> as Runtime>⟧.restores self.new ≡ ⟦<FlatScopes<R> as Runtime>⟧.restores self.old) }
+        ensures store { ⟦<FlatScopes<R> as Runtime>⟧.store self.new ≡ ⟦<FlatScopes<R> as Runtime>⟧.store self.old }
+        ensures borrows { ⟦<FlatScopes<R> as Runtime>⟧.lent self.new ≡ ⟦<FlatScopes<R> as Runtime>⟧.lent self.old }
+    {
+        let link = opening(self.alloc, &mut self.base, frame);
+        match self.table.add(self.alloc, link) {
+            Ok(()) => Ok(()),
+            Err(link) => {
+                drop(closing(&mut self.base, link));
+                Err(Error::Memory)
+            }
+        }
+    }
 }
 
 impl<R: Runtime> Runtime for FlatScopes<R> {
@@ -193,8 +236,8 @@ impl<R: Runtime> Runtime for FlatScopes<R> {
         self.base.depth()
     }
 
-    fn is_lenient(&self) -> bool {
-        self.base.is_lenient()
+    fn leniency(&self) -> Leniency {
+        self.base.leniency()
     }
 }
 
@@ -210,13 +253,11 @@ impl<R: Runtime> Scopes for FlatScopes<R> {
     }
 
     fn push(&mut self, frame: Frame) -> Result<(), Error> {
-        let link = opening(self.alloc, &mut self.base, frame);
-        match self.table.add(self.alloc, link) {
-            Ok(()) => Ok(()),
-            Err(link) => {
-                drop(closing(&mut self.base, link));
-                Err(Error::Memory)
-            }
+        match frame {
+            Frame::Loop(frame) => self.push_plain(Link::Loop(frame)),
+            Frame::None => self.push_plain(Link::None),
+            Frame::Stack(names, name) => self.push_plain(Link::Stack(names, name)),
+            other => self.push_other(other),
         }
     }
 
@@ -226,7 +267,8 @@ impl<R: Runtime> Scopes for FlatScopes<R> {
 
     fn pop_loop(&mut self) -> Option<Box<LoopFrame>> {
         match self.table.take() {
-            Some(link) => closing(&mut self.base, link),
+            Some(Taken::Loop(frame)) => Some(frame),
+            Some(Taken::Other(link)) => closing(&mut self.base, link),
             None => None,
         }
     }

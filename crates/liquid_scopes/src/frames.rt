@@ -1,12 +1,10 @@
 //! The places of the frames that have one name.
-ghost use Rattle.std.specs.Prelude.{◌≡◌, ℕ, ◌&&◌, ◌||◌, true, not, nat_eq, Some, None, IfErr, OnOk, OnErr};
+ghost use Rattle.std.specs.Prelude.{◌≡◌, ℕ, ◌&&◌, ◌||◌, true, not, nat_eq, Some, None, OnOk, OnErr};
 ghost use Rattle.std.specs.Ordering.{nat_cmp};
 ghost use Rattle.std.specs.BTreeSet.{contains};
-ghost use Rattle.liquid_error.specs.meaning.Told.{told};
 ghost use Rattle.liquid_scopes.specs.steps.NamePlaces.{is_place, is_under, TopOf};
 
-use liquid_error::Error;
-use std::alloc::Global;
+use std::alloc::{AllocError, Global};
 use std::collections::BTreeSet;
 
 /// The places of the frames that give a name a value. The last one is kept apart: a name that only one frame has takes
@@ -37,11 +35,11 @@ impl Frames {
     }
 
     /// Adds a place.
-    pub(crate) fn add(&mut self, place: usize) -> Result<(), Error>
+    #[inline(always)]
+    pub(crate) fn add(&mut self, place: usize) -> Result<(), AllocError>
         ensures added { OnOk result ((j : ℕ) → is_place self.new.last self.new.earlier j
             ≡ (is_place self.old.last self.old.earlier j || nat_eq j place)) }
         ensures unchanged { OnErr result ((j : ℕ) → is_place self.new.last self.new.earlier j ≡ is_place self.old.last self.old.earlier j) }
-        ensures err { IfErr result (λ e. told e ≡ None) }
     {
         let Some(last) = self.last else {
             self.last = Some(place);
@@ -56,6 +54,7 @@ impl Frames {
     }
 
     /// Removes a place.
+    #[inline(always)]
     pub(crate) fn leave(&mut self, place: usize)
         ensures { (j : ℕ) → is_place self.new.last self.new.earlier j
             ≡ (is_place self.old.last self.old.earlier j && not (nat_eq j place)) }

@@ -1,15 +1,13 @@
 //! Which of the listed frames give a name a value.
-ghost use Rattle.std.specs.Prelude.{◌≡◌, ℕ, List, false, is_some, IfErr, OnOk, OnErr, None, bytes_eq};
+ghost use Rattle.std.specs.Prelude.{◌≡◌, ℕ, List, false, is_some, OnOk, OnErr, bytes_eq};
 ghost use Rattle.std.specs.FinMap.{get};
-ghost use Rattle.liquid_error.specs.meaning.Told.{told};
 ghost use Rattle.liquid_runtime.specs.meaning.Maps.{names_of};
 ghost use Rattle.liquid_scopes.specs.steps.Standing.{stands, SamePlaces, Noted, PartlyNoted, Forgotten};
 ghost use Rattle.liquid_scopes.specs.steps.NamePlaces.{TopOf};
 
 use crate::frames::Frames;
-use liquid_error::Error;
 use liquid_value::Object;
-use std::alloc::Global;
+use std::alloc::{AllocError, Global};
 use std::collections::BTreeMap;
 
 /// The places of the listed frames that give a value, for each name. A name keeps its entry after its frames have ended,
@@ -40,10 +38,9 @@ impl Index {
 
     /// Records that the frame gives the name a value.
     #[inline(always)]
-    pub(crate) fn note(&mut self, alloc: Global, name: &str, frame: usize) -> Result<(), Error>
+    pub(crate) fn note(&mut self, alloc: Global, name: &str, frame: usize) -> Result<(), AllocError>
         ensures noted { OnOk result (Noted (λ q. bytes_eq name.now q) frame self.old.places self.new.places) }
         ensures unchanged { OnErr result (SamePlaces self.old.places self.new.places) }
-        ensures err { IfErr result (λ e. told e ≡ None) }
     {
         match self.places.get_mut(name) {
             Some(frames) => return frames.add(frame),
@@ -72,10 +69,9 @@ impl Index {
         alloc: Global,
         names: &Object,
         frame: usize,
-    ) -> Result<(), Error>
+    ) -> Result<(), AllocError>
         ensures noted { OnOk result (Noted (λ q. is_some (get (names_of names.now) q)) frame self.old.places self.new.places) }
         ensures partly { PartlyNoted (λ q. is_some (get (names_of names.now) q)) frame self.old.places self.new.places }
-        ensures err { IfErr result (λ e. told e ≡ None) }
     {
         for (name, _) in names.iter() {
             self.note(alloc, name.as_str(), frame)?;

@@ -5,8 +5,8 @@ use crate::chained_scopes::ChainedScopes;
 use crate::flat_scopes::FlatScopes;
 use liquid_runtime::Runtime;
 
-/// The same list of calls, on chained scopes and on flat ones that show and restore the same, has the same results, and
-/// leaves scopes that show and restore the same after each call.
+/// Any list of calls has the same results on chained scopes as on flat ones that show and restore the same, and leaves
+/// scopes that show and restore the same after each call.
 ///
 /// The calls are those that found memory: pushes, pops, set calls and lookups.
 #[tactic(auto, using(crate::proofs::Alike::same_answers))]

@@ -59,6 +59,12 @@ pub(crate) enum Link<V> {
     Isolated(Object, Object, Option<String>, Registers<V>),
 }
 
+/// A frame that is taken away: that of a loop, which may be used again, or another.
+pub(crate) enum Taken<V> {
+    Loop(Box<LoopFrame>),
+    Other(Link<V>),
+}
+
 impl<V> Link<V> {
     /// Returns the names that are seen in the link, from those that are seen below it.
     pub(crate) fn roots_over(
@@ -96,6 +102,7 @@ impl<V> Link<V> {
     }
 
     /// Returns the value that the frame itself gives a name. This is one frame lookup.
+    #[inline(always)]
     pub(crate) fn look(&self, name: &str, count: &mut Count) -> Option<Seen<'_>>
         requires { count.old.looks + 1 < 2 ^ 64 }
         ensures value { option_map seen_tree result ≡ own (layer_of self.now) name.now }
@@ -140,7 +147,12 @@ impl<V> Link<V> {
     /// Records that the frame at this place gives its names a value. If memory runs out, some of them are recorded.
     #[inline(always)]
     #[tactic(auto, using(crate::proofs::FlatLaws::no_names_stand))]
-    pub(crate) fn note(&self, index: &mut Index, alloc: Global, place: usize) -> Result<(), Error>
+    pub(crate) fn note(
+        &self,
+        index: &mut Index,
+        alloc: Global,
+        place: usize,
+    ) -> Result<(), AllocError>
         ensures noted { OnOk result (Noted (λ q. is_some (own (layer_of self.now) q)) place index.old.places index.new.places) }
         ensures partly { PartlyNoted (λ q. is_some (own (layer_of self.now) q)) place index.old.places index.new.places }
     {
@@ -256,7 +268,7 @@ fn first_value<'a>(first: &'a Object, second: &'a Object, name: &str) -> Option<
     }
 }
 
-/// Does the same with what is found.
+/// Returns what a name has in the first object, otherwise in the second, as it is found.
 fn first_seen<'a>(first: &'a Object, second: &'a Object, name: &str) -> Option<Seen<'a>>
     ensures { option_map seen_tree result ≡ option_or (get (names_of first.now) name.now) (get (names_of second.now) name.now) }
 {
@@ -267,7 +279,12 @@ fn first_seen<'a>(first: &'a Object, second: &'a Object, name: &str) -> Option<S
 }
 
 /// Records that the frame of a loop gives its two names a value. If memory runs out, one of them may be recorded.
-fn note_loop(index: &mut Index, alloc: Global, frame: &LoopFrame, place: usize) -> Result<(), Error>
+fn note_loop(
+    index: &mut Index,
+    alloc: Global,
+    frame: &LoopFrame,
+    place: usize,
+) -> Result<(), AllocError>
     ensures noted { OnOk result (Noted (λ q. is_some (get (loop_names frame.now) q)) place index.old.places index.new.places) }
     ensures partly { PartlyNoted (λ q. is_some (get (loop_names frame.now) q)) place index.old.places index.new.places }
 {
@@ -276,7 +293,7 @@ fn note_loop(index: &mut Index, alloc: Global, frame: &LoopFrame, place: usize) 
 }
 
 /// Records that the frame of a loop no longer gives its two names a value.
-fn forget_loop(index: &mut Index, frame: &LoopFrame, place: usize)
+pub(crate) fn forget_loop(index: &mut Index, frame: &LoopFrame, place: usize)
     ensures { Forgotten (λ q. is_some (get (loop_names frame.now) q)) place index.old.places index.new.places }
 {
     index.forget("forloop", place);
@@ -291,7 +308,7 @@ fn note_both(
     names: &Object,
     assigned: &Object,
     place: usize,
-) -> Result<(), Error>
+) -> Result<(), AllocError>
     ensures noted { OnOk result (Noted (λ q. is_some (option_or (get (names_of assigned.now) q) (get (names_of names.now) q)))
         place index.old.places index.new.places) }
     ensures partly { PartlyNoted (λ q. is_some (option_or (get (names_of assigned.now) q) (get (names_of names.now) q)))

@@ -6,23 +6,25 @@ ghost use Rattle.liquid_error.specs.meaning.Told.{Gives};
 ghost use Rattle.liquid_value.specs.meaning.View.{view as tree_of};
 ghost use Rattle.liquid_runtime.specs.meaning.View.{View};
 ghost use Rattle.liquid_runtime.specs.meaning.Frames.{Restore};
-ghost use Rattle.liquid_runtime.specs.meaning.NamesSeen.{lookup, names_seen, comes_from_seal};
+ghost use Rattle.liquid_runtime.specs.meaning.NamesSeen.{names_seen, comes_from_seal};
 ghost use Rattle.liquid_runtime.specs.meaning.Roots.{NamesOf};
 ghost use Rattle.liquid_runtime.specs.meaning.LoopNames.{seen_tree};
 ghost use Rattle.liquid_runtime.specs.meaning.Sets.{old_global, put_global};
 ghost use Rattle.liquid_scopes.specs.steps.Layers.{restoring, is_global, LastGlobal, GlobalAt};
-ghost use Rattle.liquid_scopes.specs.steps.LinkLayers.{layer_of, layers_of, view_over};
-ghost use Rattle.liquid_scopes.specs.steps.Standing.{stands, own_at, has_at, listed_at, seen_over, own_at_top};
-ghost use Rattle.liquid_scopes.specs.steps.Standing.{Forgotten, two_looks, sealed_by, seals_at, is_sandboxed, last_seal, places_where};
+ghost use Rattle.liquid_scopes.specs.steps.LinkLayers.{layer_of, layer_taken, layers_of, view_over};
+ghost use Rattle.liquid_scopes.specs.steps.Standing.{stands, own_at, has_at, listed_at, seen_over};
+ghost use Rattle.liquid_scopes.specs.steps.Standing.{Forgotten, sealed_by, seals_at, is_sandboxed, last_seal, places_where};
 ghost use Rattle.liquid_scopes.specs.steps.NamePlaces.{TopOf};
+
+pub(crate) mod name_lookup;
 
 use crate::flat_scopes::Count;
 use crate::index::Index;
-use crate::link::Link;
+use crate::link::{Link, Taken, forget_loop};
 use crate::links::{forget_absent, name_over, put, roots_over};
 use crate::place::{drop_place, is_at, is_under, keep_place, last_of};
 use liquid_error::Error;
-use liquid_runtime::{Fresh, Runtime, Seen};
+use liquid_runtime::{Fresh, Seen};
 use liquid_value::Value;
 use std::alloc::{AllocError, Global};
 use std::collections::BTreeSet;
@@ -93,7 +95,7 @@ impl<V: Fresh> Table<V> {
         ensures looks { count.new.looks ≤ count.old.looks + 2 }
     {
         let top = self.top(name, count);
-        match self.sealed() {
+        match self.find_sandboxed() {
             Some(seal) => !is_under(seal, top) && self.seals_at(seal, name, count),
             None => match top {
                 Some(_) => false,
@@ -110,7 +112,7 @@ impl<V: Fresh> Table<V> {
             (seals_at (layers_of self.now.links.items) name.now) (comes_from_seal v name.now) }
         ensures looks { count.new.looks ≤ count.old.looks + 1 }
     {
-        let listed = self.listed(name);
+        let listed = self.find_listed(name);
         match self.unlisted_over(listed) {
             Some(place) => match self.look_at(place, name, count) {
                 Some(_) => Some(place),
@@ -134,7 +136,7 @@ impl<V: Fresh> Table<V> {
     }
 
     /// Returns the last listed place of the name.
-    fn listed(&self, name: &str) -> Option<usize>
+    fn find_listed(&self, name: &str) -> Option<usize>
         ensures { TopOf (listed_at (layers_of self.now.links.items) self.now.unlisted name.now) result }
     {
         self.index.top(name)
@@ -146,7 +148,7 @@ impl<V: Fresh> Table<V> {
     {
         match self.unlisted {
             Some(unlisted) => {
-                if is_under(unlisted, self.sealed()) || is_under(unlisted, place) {
+                if is_under(unlisted, self.find_sandboxed()) || is_under(unlisted, place) {
                     None
                 } else {
                     Some(unlisted)
@@ -157,7 +159,7 @@ impl<V: Fresh> Table<V> {
     }
 
     /// Returns the place of the last sandboxed frame.
-    fn sealed(&self) -> Option<usize>
+    fn find_sandboxed(&self) -> Option<usize>
         ensures { result ≡ last_seal (layers_of self.now.links.items) }
     {
         last_of(&self.seals)
@@ -172,6 +174,7 @@ impl<V: Fresh> Table<V> {
 
     /// Returns the value that the frame at this place itself gives the name. This is one frame lookup, if there is a
     /// frame.
+    #[inline(always)]
     fn look_at(&self, place: usize, name: &str, count: &mut Count) -> Option<Seen<'_>>
         requires { count.old.looks + 1 < 2 ^ 64 }
         ensures value { option_map seen_tree result ≡ own_at place (layers_of self.now.links.items) name.now }
@@ -192,12 +195,8 @@ impl<V: Fresh> Table<V> {
         ensures back { IfErr result (λ given. given ≡ link) }
         ensures unchanged { OnErr result (self.new.links.items ≡ self.old.links.items) }
     {
-        if !self.make_room(&link) {
+        if !self.make_room(&link) || !self.next_unlisted(alloc, &link) {
             return Err(link);
-        }
-        match self.next_unlisted(alloc, &link) {
-            Ok(()) => {}
-            Err(_) => return Err(link),
         }
         let place = self.links.len();
         keep_place(&mut self.seals, link.is_sandboxed(), place);
@@ -206,49 +205,83 @@ impl<V: Fresh> Table<V> {
         Ok(())
     }
 
-    /// Makes the next frame the unlisted one, if it can hold names, and lists the one before it.
+    /// Adds a frame that is neither sandboxed nor global, and returns whether there is memory for it. Without memory, the
+    /// frame is dropped.
     #[inline(always)]
-    fn next_unlisted(&mut self, alloc: Global, next: &Link<V>) -> Result<(), Error>
-        ensures links { self.new.links ≡ self.old.links }
-        ensures seals { self.new.seals ≡ self.old.seals }
-        ensures globals { self.new.globals ≡ self.old.globals }
-        ensures fits { OnOk result ((q : List ℕ) (j : ℕ) → stands self.new.index.places q j
-            ≡ listed_at (map layer_of self.old.links.items ++ layer_of next.now ∷ []) self.new.unlisted q j) }
+    pub(crate) fn add_plain(&mut self, alloc: Global, link: Link<V>) -> bool
+        requires not_sandboxed { is_sandboxed (layer_of link) ≡ false }
+        requires not_global { is_global (layer_of link) ≡ false }
+        ensures added { result ≡ true → self.new.links.items ≡ self.old.links.items ++ link ∷ [] }
+        ensures unchanged { result ≡ false → self.new.links.items ≡ self.old.links.items }
     {
-        if !next.can_hold_names() {
-            return Ok(());
+        match self.links.reserve(1) {
+            Ok(()) => {}
+            Err(_) => return false,
         }
-        self.list(alloc)?;
-        self.unlisted = Some(self.links.len());
-        Ok(())
+        if !self.next_unlisted(alloc, &link) {
+            return false;
+        }
+        self.links.push_reserved(link);
+        true
     }
 
-    /// Lists the unlisted frame.
-    fn list(&mut self, alloc: Global) -> Result<(), Error>
+    /// Makes the next frame the unlisted one, if it can hold names, and lists the one before it. Returns whether there is
+    /// memory for that.
+    #[inline(always)]
+    fn next_unlisted(&mut self, alloc: Global, next: &Link<V>) -> bool
         ensures links { self.new.links ≡ self.old.links }
         ensures seals { self.new.seals ≡ self.old.seals }
         ensures globals { self.new.globals ≡ self.old.globals }
-        ensures listed { OnOk result (self.new.unlisted ≡ None) }
+        ensures fits { result ≡ true → (q : List ℕ) (j : ℕ) → stands self.new.index.places q j
+            ≡ listed_at (map layer_of self.old.links.items ++ layer_of next.now ∷ []) self.new.unlisted q j }
     {
-        let place = match self.unlisted {
-            Some(place) => place,
-            None => return Ok(()),
-        };
+        if !next.can_hold_names() {
+            return true;
+        }
+        if !self.list(alloc) {
+            return false;
+        }
+        self.unlisted = Some(self.links.len());
+        true
+    }
+
+    /// Lists the unlisted frame, if there is one, and returns whether there is memory for that.
+    #[inline(always)]
+    fn list(&mut self, alloc: Global) -> bool
+        ensures links { self.new.links ≡ self.old.links }
+        ensures seals { self.new.seals ≡ self.old.seals }
+        ensures globals { self.new.globals ≡ self.old.globals }
+        ensures listed { result ≡ true → self.new.unlisted ≡ None }
+    {
+        match self.unlisted {
+            Some(place) => self.list_at(alloc, place),
+            None => true,
+        }
+    }
+
+    /// Lists the unlisted frame, which is at this place, and returns whether there is memory for that.
+    fn list_at(&mut self, alloc: Global, place: usize) -> bool
+        requires { self.old.unlisted ≡ Some place }
+        ensures links { self.new.links ≡ self.old.links }
+        ensures seals { self.new.seals ≡ self.old.seals }
+        ensures globals { self.new.globals ≡ self.old.globals }
+        ensures listed { result ≡ true → self.new.unlisted ≡ None }
+    {
         let link = match self.links.as_slice().get(place) {
             Some(link) => link,
             None => {
                 self.unlisted = None;
-                return Ok(());
+                return true;
             }
         };
         match link.note(&mut self.index, alloc, place) {
             Ok(()) => {
                 self.unlisted = None;
-                Ok(())
+                true
             }
-            Err(error) => {
+            Err(_) => {
                 link.forget(&mut self.index, place);
-                Err(error)
+                false
             }
         }
     }
@@ -268,21 +301,31 @@ impl<V: Fresh> Table<V> {
 
     /// Removes the last frame. The names that it masked are found again.
     #[inline(always)]
-    pub(crate) fn take(&mut self) -> Option<Link<V>>
-        ensures items { self.old.links.items ≡ self.new.links.items ++ option_to_list result }
+    pub(crate) fn take(&mut self) -> Option<Taken<V>>
+        ensures items { layers_of self.old.links.items
+            ≡ layers_of self.new.links.items ++ option_to_list (option_map layer_taken result) }
         ensures none { IfNone result (self.old.links.items ≡ []) }
     {
         match self.links.pop() {
+            Some(Link::Loop(frame)) => {
+                let place = self.links.len();
+                if is_at(self.unlisted, place) {
+                    self.unlisted = None;
+                    return Some(Taken::Loop(frame));
+                }
+                forget_loop(&mut self.index, &*frame, place);
+                Some(Taken::Loop(frame))
+            }
             Some(link) => {
                 let place = self.links.len();
                 drop_place(&mut self.seals, link.is_sandboxed());
                 drop_place(&mut self.globals, link.is_global());
                 if is_at(self.unlisted, place) {
                     self.unlisted = None;
-                    return Some(link);
+                    return Some(Taken::Other(link));
                 }
                 link.forget(&mut self.index, place);
-                Some(link)
+                Some(Taken::Other(link))
             }
             None => None,
         }
@@ -317,66 +360,5 @@ impl<V: Fresh> Table<V> {
                 Err(error)
             }
         }
-    }
-}
-
-/// Returns the value of a name over this base. One lookup is in the unlisted frame, if it may be the name's last one,
-/// and one is at its last listed place or in the base.
-pub(crate) fn look_up<'a, R: Runtime>(
-    table: &'a Table<R::Register>,
-    base: &'a R,
-    name: &str,
-    count: &mut Count,
-) -> Option<Seen<'a>>
-    requires { count.old.looks + 2 < 2 ^ 64 }
-    ensures value { option_map seen_tree result ≡ lookup (view_over (R.view base.now) table.now.links.items) name.now }
-    ensures looks { count.new.looks ≤ count.old.looks + 2 }
-    ensures counts { count.old.looks ≤ count.new.looks }
-    ensures finds { IfSome result (λ value. count.old.looks + 1 ≤ count.new.looks) }
-{
-    let listed = table.listed(name);
-    match table.unlisted_over(listed) {
-        Some(place) => match table.look_at(place, name, count) {
-            Some(seen) => Some(seen),
-            None => look_listed(table, base, listed, name, count),
-        },
-        None => look_listed(table, base, listed, name, count),
-    }
-}
-
-/// Returns the value that the name has at this place, or in the base if it has none. Frames below the last sandboxed
-/// frame are not seen.
-fn look_listed<'a, R: Runtime>(
-    table: &'a Table<R::Register>,
-    base: &'a R,
-    listed: Option<usize>,
-    name: &str,
-    count: &mut Count,
-) -> Option<Seen<'a>>
-    requires { count.old.looks + 1 < 2 ^ 64 }
-    ensures value { option_map seen_tree result
-        ≡ two_looks listed (last_seal (layers_of table.now.links.items))
-        (own_at_top listed (layers_of table.now.links.items) name.now) (lookup (R.view base.now) name.now) }
-    ensures looks { count.new.looks ≤ count.old.looks + 1 }
-    ensures counts { count.old.looks ≤ count.new.looks }
-    ensures finds { IfSome result (λ value. count.old.looks + 1 ≤ count.new.looks) }
-{
-    match listed {
-        Some(place) => match table.sealed() {
-            Some(seal) => {
-                if place < seal {
-                    return None;
-                }
-                table.look_at(place, name, count)
-            }
-            None => table.look_at(place, name, count),
-        },
-        None => match table.sealed() {
-            Some(_) => None,
-            None => {
-                count.tick();
-                base.try_get_name(name)
-            }
-        },
     }
 }

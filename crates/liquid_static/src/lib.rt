@@ -16,7 +16,7 @@ use liquid_c::rendering::render;
 use std::alloc::Global;
 
 /// The number of the header's form.
-const VERSION: u32 = 3;
+const VERSION: u32 = 4;
 
 /// Renders the page into `out`, and writes how it ended to `outcome` and the text of an error to `message`.
 ///
@@ -57,7 +57,7 @@ pub extern "C" fn liquid_core_render_each(
 /// Returns the number of the header's form, which a caller compares with its `LIQUID_VERSION`.
 #[unsafe(no_mangle)]
 pub extern "C" fn liquid_version() -> u32
-    ensures { result ≡ 3 }
+    ensures { result ≡ 4 }
 {
     VERSION
 }

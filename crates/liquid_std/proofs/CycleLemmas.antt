@@ -12,8 +12,8 @@ use Rattle.liquid_parser.specs.declared.cursor.token.TryMatchToken.{TryMatchToke
 use Rattle.liquid_parser.specs.declared.cursor.token.TryMatchToken.TheVariants.{Matches, Fails}
 use Rattle.liquid_parser.specs.meaning.Cursors.{IsToken, Tries, FailedToken, matched_of}
 use Rattle.liquid_parser.specs.meaning.Handed.{Token, Tokens, expect_value, next, or_unexpected, unexpected}
-use Rattle.liquid_cycle.specs.declared.groups.GroupShape.TheVariants.{Named}
-use Rattle.liquid_cycle.specs.declared.cycle.CycleShape.{CycleShape}
+use Rattle.liquid_std.specs.declared.marks.groups.GroupShape.TheVariants.{Named}
+use Rattle.liquid_std.specs.declared.marks.cycle.CycleShape.{CycleShape}
 use Rattle.liquid_std.specs.meaning.CyclesGiven.{cycled, if_colon, name_in, named_given}
 
 -- what comes of the next token

@@ -2,3 +2,11 @@ pub mod CycleLemmas
 pub mod DivideLemmas
 pub mod PageLemmas
 pub mod SandboxLemmas
+pub mod ReadLemmas
+pub mod ValueLemmas
+pub mod PickedLemmas
+pub mod OptionLemmas
+pub mod PairLemmas
+pub mod WordLemmas
+pub mod KeyLemmas
+pub mod MarkLemmas

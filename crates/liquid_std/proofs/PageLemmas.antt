@@ -7,8 +7,8 @@ use Rattle.liquid_parser.specs.meaning.Lang.{Filters, Lang}
 use Rattle.liquid_template.specs.meaning.Sunk.{Sunk}
 use Rattle.liquid_partials.specs.meaning.Pages as page
 use Rattle.liquid_partials.specs.meaning.Sources.{Texts}
-use Rattle.liquid_cycle.specs.meaning.Held.{marks_alone}
-use Rattle.liquid_cycle.specs.meaning.Marks.{no_marks}
+use Rattle.liquid_std.specs.meaning.marks.Held.{marks_alone}
+use Rattle.liquid_std.specs.meaning.marks.Marks.{no_marks}
 use Rattle.liquid_std.specs.declared.tags.StdTagShape.{StdTagShape}
 use Rattle.liquid_std.specs.declared.blocks.StdBlockShape.{StdBlockShape}
 use Rattle.liquid_std.specs.declared.block_plugins.StdPlanShape.{StdPlanShape}

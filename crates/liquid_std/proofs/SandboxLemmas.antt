@@ -1,7 +1,7 @@
 -- The nodes of the standard language are discreet, so its laws in a sandbox hold.
 use Rattle.liquid_plugins.specs.meaning.Chain.{FilterMeaning}
 use Rattle.liquid_template.proofs.Isolation.{isolated, outsides_agree}
-use Rattle.liquid_cycle.specs.meaning.Held.{MarksIn}
+use Rattle.liquid_std.specs.meaning.marks.Held.{MarksIn}
 use Rattle.liquid_std.specs.laws.BlockLaws.{blocks_hide}
 use Rattle.liquid_std.specs.laws.TagLaws.{tags_hide}
 use Rattle.liquid_std.specs.laws.Sandboxes.{StandardAgrees, StandardIsolated}

@@ -1,2 +1,3 @@
 pub mod meaning
 pub mod laws
+pub mod steps

@@ -9,3 +9,7 @@ pub mod BlockPlugins
 pub mod Languages
 pub mod Standard
 pub mod Pages
+pub mod conditions
+pub mod iteration
+pub mod inclusion
+pub mod marks

@@ -10,6 +10,8 @@ use crate::blocks::{StdBlock, StdBlockShape};
 use crate::capture::begin_capture;
 use crate::case::{begin_case, push_alternatives};
 use crate::conditionals::{begin_if, begin_unless, push_condition};
+use crate::conditions::Equality;
+use crate::iteration::OverScalar;
 use crate::loops::{begin_for, begin_tablerow};
 use liquid_core::parser::{Meant, PluginRegistry};
 use liquid_core::{BlockBody, BlockReflection, Error, ParseBlock, ParseFilter, TagTokenIter};
@@ -31,10 +33,14 @@ static NO_DIVIDERS: [&str; 0] = [];
 /// The standard blocks.
 #[derive(Debug, Clone, Copy, PartialEq, Eq, Drop)]
 pub enum StdBlocks {
-    If,
-    Unless,
-    Case,
-    For,
+    /// `if`, whose conditions compare by this equality.
+    If(Equality),
+    /// `unless`, whose conditions compare by this equality.
+    Unless(Equality),
+    /// `case`, whose values are compared by this equality.
+    Case(Equality),
+    /// `for`, with what it goes over if its series is a scalar.
+    For(OverScalar),
     Tablerow,
     Capture,
     Ifchanged,
@@ -78,10 +84,10 @@ impl BlockReflection for StdBlocks {
 
     fn start_tag(&self) -> &str {
         match self {
-            StdBlocks::If => "if",
-            StdBlocks::Unless => "unless",
-            StdBlocks::Case => "case",
-            StdBlocks::For => "for",
+            StdBlocks::If(_) => "if",
+            StdBlocks::Unless(_) => "unless",
+            StdBlocks::Case(_) => "case",
+            StdBlocks::For(_) => "for",
             StdBlocks::Tablerow => "tablerow",
             StdBlocks::Capture => "capture",
             StdBlocks::Ifchanged => "ifchanged",
@@ -92,10 +98,10 @@ impl BlockReflection for StdBlocks {
 
     fn end_tag(&self) -> &str {
         match self {
-            StdBlocks::If => "endif",
-            StdBlocks::Unless => "endunless",
-            StdBlocks::Case => "endcase",
-            StdBlocks::For => "endfor",
+            StdBlocks::If(_) => "endif",
+            StdBlocks::Unless(_) => "endunless",
+            StdBlocks::Case(_) => "endcase",
+            StdBlocks::For(_) => "endfor",
             StdBlocks::Tablerow => "endtablerow",
             StdBlocks::Capture => "endcapture",
             StdBlocks::Ifchanged => "endifchanged",
@@ -106,11 +112,12 @@ impl BlockReflection for StdBlocks {
 
     fn description(&self) -> &str {
         match self {
-            StdBlocks::If => "Renders the part after the first condition that holds.",
-            StdBlocks::Unless =>
+            StdBlocks::If(_) => "Renders the part after the first condition that holds.",
+            StdBlocks::Unless(_) =>
                 "Renders its first part if its condition does not hold, else as an if does.",
-            StdBlocks::Case => "Renders the part of the first when that has an equal value.",
-            StdBlocks::For => "Renders its body for each item of an array, an object or a range.",
+            StdBlocks::Case(_) => "Renders the part of the first when that has an equal value.",
+            StdBlocks::For(_) =>
+                "Renders its body for each item of an array, an object or a range.",
             StdBlocks::Tablerow => "Renders its body in a cell of a table for each item.",
             StdBlocks::Capture => "Assigns the text of its part to a name.",
             StdBlocks::Ifchanged =>
@@ -132,9 +139,9 @@ impl<F: ParseFilter> ParseBlock<F> for StdBlocks {
 
     fn dividers(&self) -> &[&str] {
         match self {
-            StdBlocks::If | StdBlocks::Unless => &IF_DIVIDERS,
-            StdBlocks::Case => &CASE_DIVIDERS,
-            StdBlocks::For => &FOR_DIVIDERS,
+            StdBlocks::If(_) | StdBlocks::Unless(_) => &IF_DIVIDERS,
+            StdBlocks::Case(_) => &CASE_DIVIDERS,
+            StdBlocks::For(_) => &FOR_DIVIDERS,
             StdBlocks::Tablerow
             | StdBlocks::Capture
             | StdBlocks::Ifchanged
@@ -146,10 +153,10 @@ impl<F: ParseFilter> ParseBlock<F> for StdBlocks {
     fn escapes(&self) -> bool {
         match self {
             StdBlocks::Comment | StdBlocks::Raw => true,
-            StdBlocks::If
-            | StdBlocks::Unless
-            | StdBlocks::Case
-            | StdBlocks::For
+            StdBlocks::If(_)
+            | StdBlocks::Unless(_)
+            | StdBlocks::Case(_)
+            | StdBlocks::For(_)
             | StdBlocks::Tablerow
             | StdBlocks::Capture
             | StdBlocks::Ifchanged => false,
@@ -159,10 +166,10 @@ impl<F: ParseFilter> ParseBlock<F> for StdBlocks {
     fn nests(&self) -> bool {
         match self {
             StdBlocks::Comment => true,
-            StdBlocks::If
-            | StdBlocks::Unless
-            | StdBlocks::Case
-            | StdBlocks::For
+            StdBlocks::If(_)
+            | StdBlocks::Unless(_)
+            | StdBlocks::Case(_)
+            | StdBlocks::For(_)
             | StdBlocks::Tablerow
             | StdBlocks::Capture
             | StdBlocks::Ifchanged
@@ -210,10 +217,10 @@ fn begin_block(alloc: Global, block: StdBlocks, tokens: TagTokenIter<'_>) -> Res
     ensures { (ts : Tokens) → AreTokens tokens.entry ts → Gives plan_of result (begun block ts) }
 {
     match block {
-        StdBlocks::If => begin_if(alloc, tokens),
-        StdBlocks::Unless => begin_unless(alloc, tokens),
-        StdBlocks::Case => begin_case(alloc, tokens),
-        StdBlocks::For => begin_for(alloc, tokens),
+        StdBlocks::If(equality) => begin_if(alloc, equality, tokens),
+        StdBlocks::Unless(equality) => begin_unless(alloc, equality, tokens),
+        StdBlocks::Case(equality) => begin_case(alloc, equality, tokens),
+        StdBlocks::For(over) => begin_for(alloc, over, tokens),
         StdBlocks::Tablerow => begin_tablerow(alloc, tokens),
         StdBlocks::Capture => begin_capture(alloc, tokens),
         StdBlocks::Ifchanged => alone(alloc, tokens, StdPlan::new(StdBlock::Ifchanged)),
@@ -231,10 +238,10 @@ fn divide_node(alloc: Global, node: &mut StdBlock, tokens: TagTokenIter<'_>) -> 
     ensures { (ts : Tokens) → AreTokens tokens.entry ts → Gives (λ _. block_of node.new) result (node_divided (block_of node.old) ts) }
 {
     match node {
-        StdBlock::If(conditions) => push_condition(alloc, conditions, tokens),
-        StdBlock::Unless(conditions) => push_condition(alloc, conditions, tokens),
-        StdBlock::Case(case) => push_alternatives(alloc, &mut **case, tokens),
-        StdBlock::For(_)
+        StdBlock::If(_, conditions) => push_condition(alloc, conditions, tokens),
+        StdBlock::Unless(_, conditions) => push_condition(alloc, conditions, tokens),
+        StdBlock::Case(_, case) => push_alternatives(alloc, &mut **case, tokens),
+        StdBlock::For(_, _)
         | StdBlock::Tablerow(_)
         | StdBlock::Capture(_)
         | StdBlock::Ifchanged

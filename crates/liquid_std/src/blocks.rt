@@ -4,17 +4,19 @@ ghost use Rattle.liquid_std.specs.laws.BlockLaws.{blocks_hide};
 ghost use Rattle.liquid_std.specs.meaning.Blocks.{block_count, block_nodes, block_of, progress_of};
 
 use crate::capture::capture_turn;
+use crate::conditions::branches::CaseShape;
+use crate::conditions::condition::ConditionShape;
+use crate::conditions::{Case, Condition, Equality, part_case, part_if, part_unless};
+use crate::iteration::loops::LoopShape;
+use crate::iteration::tables::TableShape;
+use crate::iteration::{
+    Loop, OverScalar, Rounds, Table, loop_turn, picked_items, table_over, table_turn,
+};
 use crate::loops::{start_rounds, start_table};
-use liquid_conditions::branches::CaseShape;
-use liquid_conditions::condition::ConditionShape;
-use liquid_conditions::{Case, Condition, part_case, part_if, part_unless};
+use crate::marks::{HoldsMarks, changed_turn};
 use liquid_core::parser::{Bytes, ListOf, Meant};
 use liquid_core::runtime::LoopFrame;
 use liquid_core::{Discreet, Error, Frame, Renderable, Runtime, Turn};
-use liquid_cycle::{HoldsMarks, changed_turn};
-use liquid_loops::loops::LoopShape;
-use liquid_loops::tables::TableShape;
-use liquid_loops::{Loop, Rounds, Table, loop_turn, picked_items, table_over, table_turn};
 use liquid_tags::for_block::rounds::RoundsShape;
 use std::alloc::Global;
 
@@ -22,13 +24,13 @@ use std::alloc::Global;
 #[derive(Drop)]
 pub enum StdBlock {
     /// Renders the part after the first condition that holds, or the part after them all if none does.
-    If(Vec<Condition>),
-    /// The same, except that the first condition must not hold.
-    Unless(Vec<Condition>),
+    If(Equality, Vec<Condition>),
+    /// Like `If`, except that the first condition must not hold.
+    Unless(Equality, Vec<Condition>),
     /// Renders the part of the first `when` with an equal value, or the part after them all if there is none.
-    Case(Box<Case>),
+    Case(Equality, Box<Case>),
     /// Renders the first part for each item, or the second part if there are no items.
-    For(Box<Loop>),
+    For(OverScalar, Box<Loop>),
     /// Renders a table, with its part in a cell for each item.
     Tablerow(Box<Loop>),
     /// Assigns the text of its part to this name.
@@ -43,10 +45,10 @@ pub enum StdBlock {
 
 /// Marks the shape of a block.
 pub enum StdBlockShape {
-    If(ListOf<ConditionShape>),
-    Unless(ListOf<ConditionShape>),
-    Case(CaseShape),
-    For(LoopShape),
+    If(Equality, ListOf<ConditionShape>),
+    Unless(Equality, ListOf<ConditionShape>),
+    Case(Equality, CaseShape),
+    For(OverScalar, LoopShape),
     Tablerow(LoopShape),
     Capture(Bytes),
     Ifchanged,
@@ -112,20 +114,20 @@ impl<V: HoldsMarks> Renderable<V> for StdBlock {
         runtime: &mut R,
     ) -> Result<StdProgress, Error> {
         match self {
-            StdBlock::If(conditions) => {
-                let part = part_if(alloc, conditions.as_slice(), &*runtime)?;
+            StdBlock::If(equality, conditions) => {
+                let part = part_if(alloc, *equality, conditions.as_slice(), &*runtime)?;
                 Ok(StdProgress::Once(part))
             }
-            StdBlock::Unless(conditions) => {
-                let part = part_unless(alloc, conditions.as_slice(), &*runtime)?;
+            StdBlock::Unless(equality, conditions) => {
+                let part = part_unless(alloc, *equality, conditions.as_slice(), &*runtime)?;
                 Ok(StdProgress::Once(part))
             }
-            StdBlock::Case(case) => {
-                let part = part_case(alloc, &**case, &*runtime)?;
+            StdBlock::Case(equality, case) => {
+                let part = part_case(alloc, *equality, &**case, &*runtime)?;
                 Ok(StdProgress::Once(part))
             }
-            StdBlock::For(header) => {
-                let items = picked_items(alloc, &**header, &*runtime)?;
+            StdBlock::For(over, header) => {
+                let items = picked_items(alloc, *over, &**header, &*runtime)?;
                 Ok(start_rounds(alloc, items)?)
             }
             StdBlock::Tablerow(header) => {
@@ -141,6 +143,7 @@ impl<V: HoldsMarks> Renderable<V> for StdBlock {
         progress.turns()
     }
 
+    #[inline(always)]
     fn turn<R: Runtime<Register = V>>(
         &self,
         alloc: Global,
@@ -150,7 +153,7 @@ impl<V: HoldsMarks> Renderable<V> for StdBlock {
         match (self, progress) {
             (StdBlock::Raw(text), _) => Ok(Turn::Text(text.clone()?)),
             (StdBlock::Comment, _) => Ok(Turn::End),
-            (StdBlock::For(header), StdProgress::Rounds(rounds)) => {
+            (StdBlock::For(_, header), StdProgress::Rounds(rounds)) => {
                 loop_turn(alloc, &header.name, &mut **rounds, runtime)
             }
             (StdBlock::Tablerow(header), StdProgress::Table(table)) => {

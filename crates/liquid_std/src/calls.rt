@@ -5,10 +5,10 @@ ghost use Rattle.liquid_parser.specs.meaning.Plugins.{AreTokens};
 ghost use Rattle.liquid_std.specs.meaning.TagPlugins.{call_node_given};
 ghost use Rattle.liquid_std.specs.meaning.Tags.{tag_of};
 
+use crate::inclusion::ReadCall;
+use crate::inclusion::read_call::read_call;
 use crate::tags::StdTag;
 use liquid_core::{Error, Filter, TagTokenIter};
-use liquid_includes::ReadCall;
-use liquid_includes::read_call::read_call;
 use liquid_tags::{Inclusion, TagNode};
 use std::alloc::Global;
 

@@ -2,13 +2,13 @@
 ghost use Rattle.liquid_error.specs.meaning.Told.{Gives};
 ghost use Rattle.liquid_parser.specs.meaning.Handed.{Tokens};
 ghost use Rattle.liquid_parser.specs.meaning.Plugins.{AreTokens};
-ghost use Rattle.liquid_conditions.specs.meaning.Branches.{case_of};
+ghost use Rattle.liquid_std.specs.meaning.conditions.Branches.{case_of};
 ghost use Rattle.liquid_std.specs.meaning.BlockPlugins.{case_given, plan_of, with_alternatives};
 
 use crate::block_plugins::StdPlan;
 use crate::blocks::StdBlock;
-use liquid_conditions::Case;
-use liquid_conditions::read_values::read_values;
+use crate::conditions::read_values::read_values;
+use crate::conditions::{Case, Equality};
 use liquid_core::{Error, TagTokenIter};
 use liquid_tags::asked::{TOKEN_EXPECTED, alone};
 use std::alloc::Global;
@@ -16,9 +16,13 @@ use std::alloc::Global;
 /// The separators between two values of a `when`.
 static WHEN_SEPARATORS: [&str; 2] = [",", "or"];
 
-/// Reads the start tag of a `case`.
-pub(crate) fn begin_case(alloc: Global, tokens: TagTokenIter<'_>) -> Result<StdPlan, Error>
-    ensures { (ts : Tokens) → AreTokens tokens.entry ts → Gives plan_of result (case_given ts) }
+/// Reads the start tag of a `case`, whose values are compared by this equality.
+pub(crate) fn begin_case(
+    alloc: Global,
+    equality: Equality,
+    tokens: TagTokenIter<'_>,
+) -> Result<StdPlan, Error>
+    ensures { (ts : Tokens) → AreTokens tokens.entry ts → Gives plan_of result (case_given equality ts) }
 {
     let mut tokens = tokens;
     let value = tokens.next_value(alloc, TOKEN_EXPECTED)?;
@@ -30,7 +34,7 @@ pub(crate) fn begin_case(alloc: Global, tokens: TagTokenIter<'_>) -> Result<StdP
             alternatives,
         },
     )?;
-    alone(alloc, tokens, StdPlan::new(StdBlock::Case(case)))
+    alone(alloc, tokens, StdPlan::new(StdBlock::Case(equality, case)))
 }
 
 /// Reads a `when`, and appends its alternatives.

@@ -3,17 +3,17 @@ ghost use Rattle.liquid_error.specs.meaning.Told.{Gives};
 ghost use Rattle.liquid_parser.specs.meaning.Cursors.{HandsOut, IsToken};
 ghost use Rattle.liquid_parser.specs.meaning.Handed.{Token, Tokens};
 ghost use Rattle.liquid_parser.specs.meaning.Plugins.{AreTokens};
-ghost use Rattle.liquid_cycle.specs.meaning.Cycles.{cycle_of};
+ghost use Rattle.liquid_std.specs.meaning.marks.Cycles.{cycle_of};
 ghost use Rattle.liquid_std.specs.meaning.CyclesGiven.{cycle_given, name_in, named_given, unnamed_given};
 ghost use Rattle.liquid_std.specs.meaning.TagPlugins.{cycle_node_given};
 ghost use Rattle.liquid_std.specs.meaning.Tags.{tag_of};
 
+use crate::conditions::read_values::read_values;
+use crate::marks::groups::values_key;
+use crate::marks::{Cycle, Group};
 use crate::tags::StdTag;
-use liquid_conditions::read_values::read_values;
 use liquid_core::parser::TagToken;
 use liquid_core::{Error, Filter, TagTokenIter};
-use liquid_cycle::groups::values_key;
-use liquid_cycle::{Cycle, Group};
 use std::alloc::Global;
 
 /// The separator between two values.

@@ -4,6 +4,8 @@ ghost use Rattle.liquid_parser.specs.meaning.Plugins.{registry_of};
 ghost use Rattle.liquid_std.specs.meaning.Languages.{meaning_of, tags_and_blocks, the_blocks, the_tags};
 
 use crate::block_plugins::StdBlocks;
+use crate::conditions::Equality;
+use crate::iteration::OverScalar;
 use crate::tag_plugins::StdTags;
 use liquid_core::parser::PluginRegistry;
 use liquid_core::{Language, ParseFilter};
@@ -47,10 +49,10 @@ fn blocks(alloc: Global) -> Result<PluginRegistry<StdBlocks>, AllocError>
     ensures { IfOk result (λ blocks. blocks ≡ the_blocks) }
 {
     let mut blocks = PluginRegistry::new(alloc);
-    blocks.register("if", StdBlocks::If)?;
-    blocks.register("unless", StdBlocks::Unless)?;
-    blocks.register("case", StdBlocks::Case)?;
-    blocks.register("for", StdBlocks::For)?;
+    blocks.register("if", StdBlocks::If(Equality::Loose))?;
+    blocks.register("unless", StdBlocks::Unless(Equality::Loose))?;
+    blocks.register("case", StdBlocks::Case(Equality::Loose))?;
+    blocks.register("for", StdBlocks::For(OverScalar::Refused))?;
     blocks.register("tablerow", StdBlocks::Tablerow)?;
     blocks.register("capture", StdBlocks::Capture)?;
     blocks.register("ifchanged", StdBlocks::Ifchanged)?;

@@ -4,7 +4,7 @@
 ghost use Rattle.liquid_plugins.specs.meaning.Chain.{FilterMeaning};
 ghost use Rattle.liquid_std.specs.laws.Sandboxes.{StandardAgrees, StandardIsolated};
 
-use liquid_cycle::HoldsMarks;
+use crate::marks::HoldsMarks;
 
 /// Under a sandboxed frame a template of the standard language has the run that it has over an outside without names.
 ///

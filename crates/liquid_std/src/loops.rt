@@ -3,25 +3,29 @@ ghost use Rattle.std.specs.Prelude.{◌≡◌, option_map, IfOk};
 ghost use Rattle.liquid_error.specs.meaning.Told.{Gives};
 ghost use Rattle.liquid_parser.specs.meaning.Handed.{Tokens};
 ghost use Rattle.liquid_parser.specs.meaning.Plugins.{AreTokens};
-ghost use Rattle.liquid_loops.specs.meaning.Picked.{picked_left};
-ghost use Rattle.liquid_loops.specs.meaning.Tables.{table_of};
+ghost use Rattle.liquid_std.specs.meaning.iteration.Picked.{picked_left};
+ghost use Rattle.liquid_std.specs.meaning.iteration.Tables.{table_of};
 ghost use Rattle.liquid_std.specs.meaning.BlockPlugins.{for_given, plan_of, tablerow_given};
 ghost use Rattle.liquid_std.specs.meaning.Blocks.{over_items, over_table, progress_of};
 
 use crate::block_plugins::StdPlan;
 use crate::blocks::{StdBlock, StdProgress};
+use crate::iteration::read_loop::read_loop;
+use crate::iteration::{LoopBlock, OverScalar, Picked, Table, rounds_over};
 use liquid_core::{Error, TagTokenIter};
-use liquid_loops::read_loop::read_loop;
-use liquid_loops::{LoopBlock, Picked, Table, rounds_over};
 use std::alloc::{AllocError, Global};
 
-/// Reads the start tag of a `for`.
-pub(crate) fn begin_for(alloc: Global, tokens: TagTokenIter<'_>) -> Result<StdPlan, Error>
-    ensures { (ts : Tokens) → AreTokens tokens.entry ts → Gives plan_of result (for_given ts) }
+/// Reads the start tag of a `for`, with what it goes over if its series is a scalar.
+pub(crate) fn begin_for(
+    alloc: Global,
+    over: OverScalar,
+    tokens: TagTokenIter<'_>,
+) -> Result<StdPlan, Error>
+    ensures { (ts : Tokens) → AreTokens tokens.entry ts → Gives plan_of result (for_given over ts) }
 {
     let header = read_loop(alloc, LoopBlock::For, tokens)?;
     let header = Box::new(alloc, header)?;
-    Ok(StdPlan::new(StdBlock::For(header)))
+    Ok(StdPlan::new(StdBlock::For(over, header)))
 }
 
 /// Reads the start tag of a `tablerow`.

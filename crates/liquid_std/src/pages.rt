@@ -5,11 +5,11 @@ ghost use Rattle.liquid_std.specs.meaning.Pages.{RendersPage};
 
 use crate::block_plugins::StdBlocks;
 use crate::languages::language;
+use crate::marks::Marks;
 use crate::tag_plugins::StdTags;
 use liquid_core::parser::PluginRegistry;
 use liquid_core::partials::PartialSource;
 use liquid_core::{Error, Object, ParseFilter, Sink, render_page_in};
-use liquid_cycle::Marks;
 use std::alloc::Global;
 
 /// Renders a page and writes the result: this text in the standard language with these filters, over these

@@ -5,14 +5,14 @@ ghost use Rattle.liquid_std.specs.meaning.Tags.{progress_of, tag_count, tag_node
 
 use crate::decrement::decrement;
 use crate::echo::echo;
+use crate::inclusion::calls::PartialCallShape;
+use crate::inclusion::rounds::CallRoundsShape;
+use crate::inclusion::{CallRounds, PartialCall, call_rounds, call_turn};
 use crate::isolated::isolate;
+use crate::marks::cycle::CycleShape;
+use crate::marks::{Cycle, HoldsMarks, cycle_turn};
 use liquid_core::parser::{Bytes, ChainMark, FilterChain, Meant};
 use liquid_core::{Discreet, Error, Filter, Renderable, Runtime, Turn};
-use liquid_cycle::cycle::CycleShape;
-use liquid_cycle::{Cycle, HoldsMarks, cycle_turn};
-use liquid_includes::calls::PartialCallShape;
-use liquid_includes::rounds::CallRoundsShape;
-use liquid_includes::{CallRounds, PartialCall, call_rounds, call_turn};
 use liquid_tags::TagNode;
 use liquid_tags::tags::TagShape;
 use std::alloc::Global;
@@ -106,6 +106,7 @@ impl<X: Filter, V: HoldsMarks> Renderable<V> for StdTag<X> {
         progress.turns()
     }
 
+    #[inline(always)]
     fn turn<R: Runtime<Register = V>>(
         &self,
         alloc: Global,

@@ -40,7 +40,7 @@ use Rattle.std.specs.Str.{trim_end}
 use Rattle.std.proofs.lemmas.Bool.{cond-true}
 use Rattle.std.proofs.lemmas.List.{length-map}
 use Rattle.std.specs.List.{take-map}
-use Rattle.liquid_strings.specs.meaning.Cuts.{goes_on, truncated_at}
+use Rattle.liquid_strings.specs.meaning.Truncation.{goes_on, truncated_at}
 use Rattle.liquid_strings.specs.meaning.Split.{words}
 use Rattle.liquid_strings.proofs.PieceLemmas.{join_by_view}
 use Rattle.liquid_strings.proofs.PlaceLemmas.{after_text}

@@ -1,10 +1,10 @@
 pub mod Cases
-pub mod Cuts
 pub mod Escape
 pub mod Pieces
 pub mod Replace
 pub mod Slices
 pub mod Split
 pub mod Tags
+pub mod Truncation
 pub mod Url
 pub mod Utf8

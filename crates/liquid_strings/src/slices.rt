@@ -2,7 +2,7 @@
 ghost use Rattle.std.specs.Prelude.{◌≡◌, chars, encode_utf8_all};
 ghost use Rattle.liquid_strings.specs.meaning.Slices.{count_in, sliced, sliced_at, sliced_text, start_in};
 
-use crate::cuts::{character_count, cut};
+use crate::truncation::{character_count, cut};
 
 /// Returns the characters of the text from a place on, at most `count` of them. A place below 0 counts from the end.
 pub fn slice(text: &str, start: i64, count: i64) -> &str

@@ -19,8 +19,8 @@ use Rattle.liquid_tags.specs.meaning.CallsGiven.{colon, comma, pair_given, pairs
 use Rattle.liquid_tags.specs.meaning.Partials.{CallShape, Pair}
 use Rattle.liquid_tags.specs.meaning.TagPlugins as library_tag
 use Rattle.liquid_tags.proofs.PairLemmas.{going_on, pairs_step}
-use Rattle.liquid_includes.specs.meaning.CallsGiven.{after_name, after_word, alone, begin_with_colon, by_for, by_with}
-use Rattle.liquid_includes.specs.meaning.CallsGiven.{call_given, from_colon, from_value, pair_from, pairs_from}
+use Rattle.liquid_std.specs.meaning.inclusion.CallsGiven.{after_name, after_word, alone, begin_with_colon, by_for, by_with}
+use Rattle.liquid_std.specs.meaning.inclusion.CallsGiven.{call_given, from_colon, from_value, pair_from, pairs_from}
 use Rattle.liquid_std.specs.declared.tag_plugins.StdTags.TheVariants as tag
 use Rattle.liquid_std.specs.declared.tags.StdTagShape.{StdTagShape}
 use Rattle.liquid_std.specs.declared.tags.StdTagShape.TheVariants.{Library}

@@ -9,15 +9,17 @@ use Rattle.liquid_tags.specs.declared.blocks.BlockShape.{BlockShape}
 use Rattle.liquid_tags.specs.declared.blocks.BlockShape.TheVariants.{If, For, Raw}
 use Rattle.liquid_tags.specs.declared.blocks.ProgressShape.{ProgressShape}
 use Rattle.liquid_tags.specs.declared.blocks.ProgressShape.TheVariants.{Once, Loop}
+use Rattle.liquid_tags.specs.declared.if_block.condition.Comparison.TheVariants as comparison
 use Rattle.liquid_tags.specs.declared.if_block.condition.ConditionShape.{ConditionShape}
 use Rattle.liquid_tags.specs.declared.if_block.condition.ConditionShape.TheVariants.{Holds, Compares}
 use Rattle.liquid_tags.specs.meaning.Blocks as library
 use Rattle.liquid_tags.specs.meaning.Conditions as condition
 use Rattle.liquid_tags.specs.meaning.Series.{items_of}
-use Rattle.liquid_conditions.specs.meaning.Branches.{part_if}
-use Rattle.liquid_conditions.specs.meaning.Conditions.{holds}
-use Rattle.liquid_loops.specs.meaning.Picked.{picked}
-use Rattle.liquid_cycle.specs.meaning.Held.{MarksIn}
+use Rattle.liquid_std.specs.declared.conditions.equality.Equality.TheVariants.{Loose}
+use Rattle.liquid_std.specs.meaning.conditions.Branches.{part_if}
+use Rattle.liquid_std.specs.meaning.conditions.Conditions.{holds}
+use Rattle.liquid_std.specs.meaning.iteration.Picked.{picked}
+use Rattle.liquid_std.specs.meaning.marks.Held.{MarksIn}
 use Rattle.liquid_std.specs.declared.blocks.StdProgressShape.{StdProgressShape}
 use Rattle.liquid_std.specs.declared.blocks.StdProgressShape.TheVariants as progress
 use Rattle.liquid_std.specs.meaning.Blocks.{begins_as, block_catches, block_count, block_takes, over_items}
@@ -29,14 +31,19 @@ progress_image (Once part) = progress.Once part
 progress_image (Loop r) = progress.Rounds r
 
 module _ {Reg : Type 0} (v : View Reg) where
-  holds_kept : (c : ConditionShape) → holds v (condition_image c) ≡ condition.holds v c
+  holds_kept : (c : ConditionShape) → holds Loose v (condition_image c) ≡ condition.holds v c
   holds_kept (Holds e) = refl
-  holds_kept (Compares l op r) = refl
+  holds_kept (Compares l comparison.Equal r) = refl
+  holds_kept (Compares l comparison.Unequal r) = refl
+  holds_kept (Compares l comparison.Less r) = refl
+  holds_kept (Compares l comparison.Greater r) = refl
+  holds_kept (Compares l comparison.AtMost r) = refl
+  holds_kept (Compares l comparison.AtLeast r) = refl
 
-  chosen_kept : (part : ℕ) (cs : List ConditionShape) → part_if v part (map condition_image cs) ≡ condition.chosen v part cs
+  chosen_kept : (part : ℕ) (cs : List ConditionShape) → part_if Loose v part (map condition_image cs) ≡ condition.chosen v part cs
   chosen_kept part [] = refl
   chosen_kept part (c ∷ cs) =
-      ap (λ r. ok_then r (λ it_holds. cond it_holds (Ok part) (part_if v (part + 1) (map condition_image cs)))) (holds_kept c)
+      ap (λ r. ok_then r (λ it_holds. cond it_holds (Ok part) (part_if Loose v (part + 1) (map condition_image cs)))) (holds_kept c)
       ∙ ap (λ q. ok_then (condition.holds v c) (λ it_holds. cond it_holds (Ok part) q)) (chosen_kept (part + 1) cs)
 
   part_kept : (r : Result ℕ Refusal) → ok_then r (λ part. Ok (progress.Once part)) ≡ ok_then (ok_then r (λ part. Ok (Once part)))

@@ -15,6 +15,8 @@ use Rattle.liquid_tags.specs.meaning.BlockPlugins as library_block
 use Rattle.liquid_tags.specs.meaning.Languages as library
 use Rattle.liquid_tags.specs.meaning.Languages.{under_names}
 use Rattle.liquid_tags.specs.meaning.TagPlugins as library_tag
+use Rattle.liquid_std.specs.declared.conditions.equality.Equality.TheVariants.{Loose}
+use Rattle.liquid_std.specs.declared.iteration.scalars.OverScalar.TheVariants.{Refused}
 use Rattle.liquid_std.specs.declared.block_plugins.StdBlocks.{StdBlocks}
 use Rattle.liquid_std.specs.declared.block_plugins.StdBlocks.TheVariants as block
 use Rattle.liquid_std.specs.declared.tag_plugins.StdTags.{StdTags}
@@ -68,8 +70,8 @@ block_named q b is =
 
 -- the standard block with the name of one of the library
 abbrev pub standard_block : Blocks → StdBlocks
-standard_block If = block.If
-standard_block For = block.For
+standard_block If = block.If Loose
+standard_block For = block.For Refused
 standard_block Raw = block.Raw
 
 abbrev std_tags : List StdTags
@@ -79,7 +81,8 @@ std_tags =
 
 abbrev std_blocks : List StdBlocks
 std_blocks =
-    block.If ∷ block.Unless ∷ block.Case ∷ block.For ∷ block.Tablerow ∷ block.Capture ∷ block.Ifchanged ∷ block.Comment ∷ block.Raw ∷ []
+    block.If Loose ∷ block.Unless Loose ∷ block.Case Loose ∷ block.For Refused ∷ block.Tablerow ∷ block.Capture ∷ block.Ifchanged
+    ∷ block.Comment ∷ block.Raw ∷ []
 
 own_tag : (p : Tags) → last_named tag_name (library_tag.tag_name p) None std_tags ≡ Some (tag.Library p)
 own_tag Assign = refl

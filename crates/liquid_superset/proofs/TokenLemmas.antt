@@ -48,10 +48,11 @@ use Rattle.liquid_tags.specs.meaning.BlockPlugins as library
 use Rattle.liquid_tags.specs.meaning.BlockPlugins.{expect_series}
 use Rattle.liquid_tags.specs.meaning.ConditionsGiven as asked
 use Rattle.liquid_tags.specs.meaning.ConditionsGiven.{comparison_of}
-use Rattle.liquid_conditions.specs.declared.condition.ConditionShape as standard
-use Rattle.liquid_conditions.specs.declared.condition.Operator.TheVariants as operator
-use Rattle.liquid_conditions.specs.declared.condition.TestShape.TheVariants as test
-use Rattle.liquid_conditions.specs.meaning.ConditionsGiven.{
+use Rattle.liquid_std.specs.declared.conditions.condition.ConditionShape as standard
+use Rattle.liquid_std.specs.declared.conditions.condition.Operator.TheVariants as operator
+use Rattle.liquid_std.specs.declared.conditions.condition.TestShape.TheVariants as test
+use Rattle.liquid_std.specs.declared.conditions.equality.Equality.TheVariants.{Loose}
+use Rattle.liquid_std.specs.meaning.conditions.ConditionsGiven.{
   after_test,
   after_value,
   condition_given,
@@ -60,10 +61,11 @@ use Rattle.liquid_conditions.specs.meaning.ConditionsGiven.{
   joined_by,
   operator_of,
 }
-use Rattle.liquid_loops.specs.declared.loops.LoopShape.{LoopShape}
-use Rattle.liquid_loops.specs.declared.options.LoopBlock.TheVariants as loop
-use Rattle.liquid_loops.specs.declared.options.OptionsShape.{OptionsShape}
-use Rattle.liquid_loops.specs.meaning.OptionsGiven.{no_options, options_from}
+use Rattle.liquid_std.specs.declared.iteration.loops.LoopShape.{LoopShape}
+use Rattle.liquid_std.specs.declared.iteration.options.LoopBlock.TheVariants as loop
+use Rattle.liquid_std.specs.declared.iteration.options.OptionsShape.{OptionsShape}
+use Rattle.liquid_std.specs.declared.iteration.scalars.OverScalar.TheVariants.{Refused}
+use Rattle.liquid_std.specs.meaning.iteration.OptionsGiven.{no_options, options_from}
 use Rattle.liquid_std.specs.declared.blocks.StdBlockShape.{StdBlockShape}
 use Rattle.liquid_std.specs.declared.blocks.StdBlockShape.TheVariants as shape
 use Rattle.liquid_std.specs.declared.block_plugins.StdPlanShape.{StdPlanShape}
@@ -190,7 +192,7 @@ abbrev unclosed : StdBlockShape → Result StdPlanShape Refusal
 unclosed n = Ok (record { node = n; is_closed = false })
 
 abbrev one_condition : standard.ConditionShape → Result StdPlanShape Refusal
-one_condition c = unclosed (shape.If (c ∷ []))
+one_condition c = unclosed (shape.If Loose (c ∷ []))
 
 begins_if : (ts : Tokens) (p : PlanShape) → library.begun If ts ≡ Ok p → Begins If ts p
 begins_if ts p is =
@@ -215,7 +217,7 @@ abbrev from_name : List ℕ × Tokens → Result LoopShape Refusal
 from_name name = ok_then (next_as (expect_str (codes "in")) name.1) (from_word name.0)
 
 abbrev planned_loop : LoopShape → Result StdPlanShape Refusal
-planned_loop l = unclosed (shape.For l)
+planned_loop l = unclosed (shape.For Refused l)
 
 -- the same parts of a loop of the library
 abbrev old_series : List ℕ → SeriesShape × Tokens → Result PlanShape Refusal
@@ -287,7 +289,7 @@ abbrev one_more : List standard.ConditionShape → standard.ConditionShape → R
 one_more cs c = Ok (cs ++ c ∷ [])
 
 abbrev divided_if : List standard.ConditionShape → Result StdBlockShape Refusal
-divided_if cs = Ok (shape.If cs)
+divided_if cs = Ok (shape.If Loose cs)
 
 abbrev old_condition : List ConditionShape → ConditionShape → Result PlanShape Refusal
 old_condition cs c = Ok (plan (if_plan (cs ++ c ∷ [])) false)
@@ -303,10 +305,10 @@ if_divides cs false name ts p same is =
       false,
       refl,
       sym (same_value (plan (if_plan (cs ++ read.0 ∷ [])) false) p read.2),
-      ap (by_name (shape.If (map condition_image cs)) ts) same
+      ap (by_name (shape.If Loose (map condition_image cs)) ts) same
           ∙ ap (λ r. ok_then (ok_then (ok_then r (one_more (map condition_image cs))) divided_if) unclosed)
           (condition_kept ts read.0 read.1)
-          ∙ ap (λ ds. unclosed (shape.If ds)) (sym (map-append condition_image cs (read.0 ∷ []))),
+          ∙ ap (λ ds. unclosed (shape.If Loose ds)) (sym (map-append condition_image cs (read.0 ∷ []))),
     )
 
 abbrev old_other : List ℕ → SeriesShape → ConditionShape → Result PlanShape Refusal

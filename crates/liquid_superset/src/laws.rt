@@ -6,7 +6,7 @@ ghost use Rattle.liquid_parser.specs.meaning.Lang.{Filters};
 ghost use Rattle.liquid_plugins.specs.meaning.Chain.{FilterMeaning};
 ghost use Rattle.liquid_superset.specs.laws.Superset.{ReadsImages, RunsImages};
 
-use liquid_cycle::HoldsMarks;
+use liquid_std::marks::HoldsMarks;
 
 /// The standard language reads each text that the language of `liquid_tags` reads, as the image of what that language
 /// reads it as, if both have the same filters.

@@ -76,6 +76,7 @@ impl<V: Fresh> Renderable<V> for BlockNode {
 
     ghost means = { block_nodes };
 
+    #[inline(always)]
     fn start<R: Runtime<Register = V>>(
         &self,
         alloc: Global,
@@ -98,6 +99,7 @@ impl<V: Fresh> Renderable<V> for BlockNode {
         progress.turns()
     }
 
+    #[inline(always)]
     fn turn<R: Runtime<Register = V>>(
         &self,
         alloc: Global,

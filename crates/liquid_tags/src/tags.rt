@@ -43,6 +43,7 @@ impl<X: Filter, V: Fresh> Renderable<V> for TagNode<X> {
 
     ghost means = { tag_nodes X.means };
 
+    #[inline(always)]
     fn start<R: Runtime<Register = V>>(
         &self,
         _alloc: Global,
@@ -55,6 +56,7 @@ impl<X: Filter, V: Fresh> Renderable<V> for TagNode<X> {
         *progress
     }
 
+    #[inline(always)]
     fn turn<R: Runtime<Register = V>>(
         &self,
         alloc: Global,

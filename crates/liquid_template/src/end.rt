@@ -56,12 +56,23 @@ where
     match answer {
         Ok(()) => true,
         Err(_) => {
-            let given = mem::replace(answer, Ok(()));
-            let trace = mem::replace(&mut going.trace, None);
-            *answer = with_own_trace(alloc, given, trace);
+            add_trace(alloc, going, answer);
             false
         }
     }
+}
+
+/// Puts the turn's trace on an error. It is a function of its own, since the locals of a function are cleared even if
+/// there is no error.
+#[inline(never)]
+fn add_trace<P>(alloc: Global, going: &mut Going<P>, answer: &mut Result<(), Error>)
+    ensures traced { ErrBecomes (refused_through (option_map (λ s. string_bytes s) going.old.trace)) answer.old answer.new }
+    ensures same { is_ok answer.new ≡ is_ok answer.old }
+    ensures progress { going.new.progress ≡ going.old.progress }
+{
+    let given = mem::replace(answer, Ok(()));
+    let trace = mem::replace(&mut going.trace, None);
+    *answer = with_own_trace(alloc, given, trace);
 }
 
 /// Ends a turn whose partial was rendered, as `end_turn` does. An error in the partial gets the partial's name.
@@ -86,14 +97,22 @@ where
 {
     match answer {
         Ok(()) => {}
-        Err(_) => {
-            if let Some(partial) = mem::replace(&mut going.partial, None) {
-                let given = mem::replace(answer, Ok(()));
-                *answer = within_partial(alloc, given, partial.as_str());
-            }
-        }
+        Err(_) => add_partial(alloc, going, answer),
     }
     end_turn(alloc, node, going, scopes, answer)
+}
+
+/// Puts the partial's name on an error.
+#[inline(never)]
+fn add_partial<P>(alloc: Global, going: &mut Going<P>, answer: &mut Result<(), Error>)
+    ensures same { ErrBecomes (λ r. r) answer.old answer.new }
+    ensures progress { going.new.progress ≡ going.old.progress }
+    ensures trace { going.new.trace ≡ going.old.trace }
+{
+    if let Some(partial) = mem::replace(&mut going.partial, None) {
+        let given = mem::replace(answer, Ok(()));
+        *answer = within_partial(alloc, given, partial.as_str());
+    }
 }
 
 /// Ends a turn whose part was captured, as `end_turn` does. The text is closed, and is given to the node if there is no

@@ -31,7 +31,7 @@ fn no_store_error(alloc: Global, name: &str) -> Error
 }
 
 /// Finds a partial in the store, if there is one.
-#[inline(never)]
+#[inline(always)]
 pub(crate) fn find<X, T, B, S>(
     alloc: Global,
     name: &str,

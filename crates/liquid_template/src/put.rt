@@ -39,7 +39,7 @@ pub(crate) fn put_text<O: Out>(
 }
 
 /// Returns the text that a value renders as. A text is borrowed in place.
-fn rendered_text(alloc: Global, value: &Value) -> Result<CowStr<'_>, Error>
+fn render_text(alloc: Global, value: &Value) -> Result<CowStr<'_>, Error>
     ensures { Gives cow_str_bytes result (Ok (render (tree_of value.now))) }
 {
     match value {
@@ -66,8 +66,10 @@ fn put_value<O: Out>(alloc: Global, value: &Value, out: &mut O, answer: &mut Res
             let mut digits = itoa::Buffer::new();
             put_text(alloc, digits.format(*number), out, answer)
         }
+        Value::Scalar(ScalarOf::Bool(true)) => put_text(alloc, "true", out, answer),
+        Value::Scalar(ScalarOf::Bool(false)) => put_text(alloc, "false", out, answer),
         Value::Scalar(ScalarOf::Str(text)) => put_text(alloc, text.as_str(), out, answer),
-        other => match rendered_text(alloc, other) {
+        other => match render_text(alloc, other) {
             Ok(text) => put_text(alloc, text.as_str(), out, answer),
             Err(error) => *answer = Err(error),
         },

@@ -37,6 +37,28 @@ where
     ensures store { S.store scopes.new ≡ S.store scopes.old }
     ensures borrows { S.lent scopes.new ≡ S.lent scopes.old }
 {
+    begin_node(alloc, node, scopes, answer)
+}
+
+/// Starts a node, as `start_node` does, in the place of its call.
+#[inline(always)]
+fn begin_node<N, S>(
+    alloc: Global,
+    node: &N,
+    scopes: &mut S,
+    answer: &mut Result<(), Error>,
+) -> Option<Going<N::Progress>>
+where
+    S: Scopes,
+    N: Renderable<S::Register>,
+    requires { IsOk answer.old }
+    ensures begins { Begins N.means (N.shape node.now) (S.view scopes.old) (S.view scopes.new) answer.new
+        (option_map (λ going. N.Progress.shape going.progress) result) }
+    ensures frames { SameFrames (S.view scopes.old) (S.view scopes.new) }
+    ensures owes { S.restores scopes.new ≡ S.restores scopes.old }
+    ensures store { S.store scopes.new ≡ S.store scopes.old }
+    ensures borrows { S.lent scopes.new ≡ S.lent scopes.old }
+{
     match node.start(alloc, scopes) {
         Ok(progress) => Some(Going {
             progress,
@@ -70,7 +92,7 @@ where
     ensures store { S.store scopes.new ≡ S.store scopes.old }
     ensures borrows { S.lent scopes.new ≡ S.lent scopes.old }
 {
-    let going = start_node(alloc, node, scopes, answer)?;
+    let going = begin_node(alloc, node, scopes, answer)?;
     match Box::new(alloc, going) {
         Ok(going) => Some(going),
         Err(_) => {

@@ -93,7 +93,7 @@ where
             false => Step::Stop,
         },
         Ok(Turn::Partial(name, frame, trace)) => {
-            match partial_opened(alloc, &name, frame, trace, kept, depth, scopes, answer) {
+            match open_partial(alloc, &name, frame, trace, kept, depth, scopes, answer) {
                 Some(template) => {
                     *partial = Some(name);
                     Step::Partial(template)
@@ -137,7 +137,7 @@ where
 
 /// Opens a partial under its frame and keeps its trace. On an error, `answer` is that error and the frame has ended.
 #[inline(always)]
-fn partial_opened<X, T, B, S>(
+fn open_partial<X, T, B, S>(
     alloc: Global,
     name: &str,
     frame: Frame,
@@ -167,7 +167,7 @@ where
             return None;
         }
     }
-    match found(alloc, name, depth, scopes) {
+    match find_within_depth(alloc, name, depth, scopes) {
         Ok(template) => {
             keep_trace(kept, trace);
             Some(template)
@@ -181,7 +181,8 @@ where
 }
 
 /// Finds a partial, if one more may be nested.
-fn found<X, T, B, S>(
+#[inline(always)]
+fn find_within_depth<X, T, B, S>(
     alloc: Global,
     name: &str,
     depth: u32,

@@ -6,8 +6,8 @@ use Rattle.std.proofs.lemmas.Bool.{ltb-true}
 use Rattle.std.proofs.lemmas.List.{drop-take, length-take}
 use Rattle.liquid_error.specs.meaning.Refusal.{Refusal, ok_then}
 use Rattle.liquid_value.specs.meaning.Tree.{Tree}
-use Rattle.liquid_loops.specs.meaning.Options.{option_number}
-use Rattle.liquid_loops.specs.meaning.Picked.{in_order, limited, natural, picked}
+use Rattle.liquid_std.specs.meaning.iteration.Options.{option_number}
+use Rattle.liquid_std.specs.meaning.iteration.Picked.{in_order, limited, natural, picked}
 use Rattle.loop_laws.specs.laws.ForLoops.{GoesOverChosen}
 use Rattle.loop_laws.specs.meaning.Chosen.{chosen}
 
@@ -46,7 +46,7 @@ pickings reversed items offset limit =
     ok_then items (λ ts. ok_then offset (λ o. ok_then limit (λ n. Ok (picked (unwrap_or o (pos 0)) n reversed ts))))
 
 pub goes_over_chosen : {Reg : Type 0} → GoesOverChosen Reg
-goes_over_chosen v l ts offset limit items starts ends =
+goes_over_chosen over v l ts offset limit items starts ends =
     let reversed = l.options.is_reversed in
     ap (λ r. pickings reversed r (option_number v l.options.offset) (option_number v l.options.limit)) items
     ∙ ap (λ r. pickings reversed (Ok ts) r (option_number v l.options.limit)) starts ∙ ap (pickings reversed (Ok ts) (Ok offset)) ends

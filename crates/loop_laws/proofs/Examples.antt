@@ -15,9 +15,10 @@ use Rattle.liquid_template.specs.meaning.Runs.{block_run, part_run}
 use Rattle.liquid_tags.specs.declared.for_block.series.SeriesShape.{SeriesShape}
 use Rattle.liquid_tags.specs.declared.for_block.series.SeriesShape.TheVariants.{Of, Between}
 use Rattle.liquid_tags.specs.laws.LoopRuns.{cleared}
-use Rattle.liquid_loops.specs.declared.loops.LoopShape.{LoopShape}
-use Rattle.liquid_loops.specs.meaning.Picked.{in_order}
-use Rattle.liquid_cycle.specs.meaning.Held.{MarksIn}
+use Rattle.liquid_std.specs.declared.iteration.loops.LoopShape.{LoopShape}
+use Rattle.liquid_std.specs.declared.iteration.scalars.OverScalar.TheVariants.{Refused}
+use Rattle.liquid_std.specs.meaning.iteration.Picked.{in_order}
+use Rattle.liquid_std.specs.meaning.marks.Held.{MarksIn}
 use Rattle.liquid_std.specs.declared.blocks.StdBlockShape.{StdBlockShape}
 use Rattle.liquid_std.specs.declared.blocks.StdBlockShape.TheVariants.{For, Tablerow}
 use Rattle.liquid_std.specs.declared.tags.StdTagShape.{StdTagShape}
@@ -83,7 +84,7 @@ module _ {Reg F : Type 0} (held : MarksIn Reg) (fresh : Reg) (m : FilterMeaning 
   part_ends = (refl, refl, refl)
 
   abbrev run_of : LoopShape → Run Reg
-  run_of l = block_run (standard held fresh m finds) depth (For l) texts_xy v
+  run_of l = block_run (standard held fresh m finds) depth (For Refused l) texts_xy v
 
   abbrev table_of : LoopShape → Run Reg
   table_of l = block_run (standard held fresh m finds) depth (Tablerow l) texts_xy v
@@ -100,14 +101,14 @@ module _ {Reg F : Type 0} (held : MarksIn Reg) (fresh : Reg) (m : FilterMeaning 
   three_written : Ends (run_of (loop_over one_to_three None)) (codes "xxx") v
   unfolding run_node run_nodes run_parts under
   three_written =
-      for_writes held fresh m finds depth (loop_over one_to_three None) texts_xy (number 1) (number 2 ∷ number 3 ∷ []) v v
+      for_writes held fresh m finds depth Refused (loop_over one_to_three None) texts_xy (number 1) (number 2 ∷ number 3 ∷ []) v v
       (codes "x" ∷ codes "x" ∷ codes "x" ∷ []) refl (three_bodies _ (λ place t. (refl, refl, refl)) (number 1) (number 2) (number 3))
 
   -- `{% for i in nil %}x{% else %}y{% endfor %}` writes `y`
   none_written : Ends (run_of (loop_over (Of (literal nil)) None)) (codes "y") v
   unfolding run_node run_nodes run_parts
   none_written =
-      rw (for_runs held fresh m finds depth (loop_over (Of (literal nil)) None) texts_xy v) (refl, refl, refl)
+      rw (for_runs held fresh m finds depth Refused (loop_over (Of (literal nil)) None) texts_xy v) (refl, refl, refl)
 
   -- `{% tablerow i in (1..3) cols: 2 %}x{% endtablerow %}` writes two rows
   table_written : Ends (table_of (loop_over one_to_three (Some (literal (number 2))))) three_text v

@@ -36,9 +36,10 @@ use Rattle.liquid_template.specs.meaning.Nodes.{Setting, answered, performed, pl
 use Rattle.liquid_template.specs.meaning.Run.{Action, Run}
 use Rattle.liquid_tags.specs.laws.LoopRuns.{after_body, cleared, item_run, leaves, loop_run}
 use Rattle.liquid_tags.specs.meaning.Loops.{is_left, item_turn, rested}
-use Rattle.liquid_loops.specs.declared.loops.LoopShape.{LoopShape}
-use Rattle.liquid_loops.specs.meaning.Loops.{picked_items}
-use Rattle.liquid_cycle.specs.meaning.Held.{MarksIn}
+use Rattle.liquid_std.specs.declared.iteration.loops.LoopShape.{LoopShape}
+use Rattle.liquid_std.specs.declared.iteration.scalars.OverScalar.{OverScalar}
+use Rattle.liquid_std.specs.meaning.iteration.Loops.{picked_items}
+use Rattle.liquid_std.specs.meaning.marks.Held.{MarksIn}
 use Rattle.liquid_std.specs.declared.blocks.StdBlockShape.TheVariants.{For}
 use Rattle.liquid_std.specs.declared.blocks.StdProgressShape.{StdProgressShape}
 use Rattle.liquid_std.specs.declared.blocks.StdProgressShape.TheVariants.{Once, Rounds}
@@ -60,16 +61,16 @@ module _ {Reg : Type 0} where
   pub left_clear : (place k : ℕ) (v : View Reg) → place ≡ suc k → left_by place v ≡ cleared v
   left_clear place k v e = ap (λ q. left_by q v) e
 
-module _ {Reg F T P B Q : Type 0} (s : Setting Reg F T P B Q) (partials : List ℕ → Action Reg) (held : MarksIn Reg) (l : LoopShape)
-    (parts : List (Action Reg)) where
+module _ {Reg F T P B Q : Type 0} (s : Setting Reg F T P B Q) (partials : List ℕ → Action Reg) (held : MarksIn Reg)
+    (over : OverScalar) (l : LoopShape) (parts : List (Action Reg)) where
   abbrev loop_at : List Tree → ℕ → ℕ → ℕ → StdProgressShape
   loop_at ts place size n = Rounds (record { left = ts; place = place; size = size; turns = n })
 
   abbrev takes_turns : ℕ → StdProgressShape → Action Reg
-  takes_turns = turns s partials (block_nodes held) (For l) parts
+  takes_turns = turns s partials (block_nodes held) (For over l) parts
 
   abbrev follows : TurnShape → StdProgressShape → (StdProgressShape → Action Reg) → Action Reg
-  follows turn = answered s partials (block_nodes held) (For l) parts (Ok turn)
+  follows turn = answered s partials (block_nodes held) (For over l) parts (Ok turn)
 
   -- the run of the item at a place
   abbrev item_at : ℕ → ℕ → Tree → Action Reg
@@ -140,7 +141,7 @@ module _ {Reg F T P B Q : Type 0} (s : Setting Reg F T P B Q) (partials : List �
 
   -- what follows from the items
   started_over : (items : Result (List Tree) Refusal) (v : View Reg)
-      → started s partials (block_nodes held) (For l) parts (ok_then items (λ ts. Ok (over_items ts))) v
+      → started s partials (block_nodes held) (For over l) parts (ok_then items (λ ts. Ok (over_items ts))) v
       ≡ for_run s.fresh l.name (part_at parts 0) (part_at parts 1) items v
   started_over (Err refusal) v = refl
   started_over (Ok []) v = second_part v
@@ -149,10 +150,10 @@ module _ {Reg F T P B Q : Type 0} (s : Setting Reg F T P B Q) (partials : List �
       ap (λ c. takes_turns c (loop_at (t ∷ ts) 0 size (size + 1)) v) (add-one size) ∙ first_turn size (size + 1) t ts v
 
   pub for_played : (v : View Reg)
-      → played s partials (block_nodes held) (For l) parts v
-      ≡ for_run s.fresh l.name (part_at parts 0) (part_at parts 1) (picked_items v l) v
+      → played s partials (block_nodes held) (For over l) parts v
+      ≡ for_run s.fresh l.name (part_at parts 0) (part_at parts 1) (picked_items over v l) v
   unfolding played
-  for_played v = started_over (picked_items v l) v
+  for_played v = started_over (picked_items over v l) v
 
 over_none : (items : Result (List Tree) Refusal) → ok_then items (λ ts. Ok (over_items ts)) ≡ Ok (Once 1) → items ≡ Ok []
 over_none (Err refusal) e = cc e
@@ -160,5 +161,5 @@ over_none (Ok []) e = refl
 over_none (Ok (t ∷ ts)) e = cc e
 
 pub takes_else : {Reg : Type 0} → TakesElse Reg
-takes_else v l =
-    (over_none (picked_items v l), ap (λ (items : Result (List Tree) Refusal). ok_then items (λ ts. Ok (over_items ts))))
+takes_else over v l =
+    (over_none (picked_items over v l), ap (λ (items : Result (List Tree) Refusal). ok_then items (λ ts. Ok (over_items ts))))

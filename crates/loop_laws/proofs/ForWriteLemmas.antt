@@ -10,7 +10,7 @@ use Rattle.liquid_template.specs.meaning.Partials.{partials_at}
 use Rattle.liquid_template.specs.meaning.Run.{Action, Run}
 use Rattle.liquid_template.specs.meaning.Runs.{part_run}
 use Rattle.liquid_tags.specs.laws.LoopRuns.{after_body, cleared, item_run, leaves}
-use Rattle.liquid_cycle.specs.meaning.Held.{MarksIn}
+use Rattle.liquid_std.specs.meaning.marks.Held.{MarksIn}
 use Rattle.liquid_std.specs.meaning.Standard.{standard}
 use Rattle.loop_laws.specs.laws.ForLoops.{ForRuns, ForWrites}
 use Rattle.loop_laws.specs.laws.Bodies.{Bodies, no_more, leaves_off, goes_on}
@@ -73,14 +73,14 @@ module _ {Reg : Type 0} (fresh : Reg) (name : List ℕ) (size : ℕ) (body : Act
 
 module _ {Reg F : Type 0} (held : MarksIn Reg) (fresh : Reg) (m : FilterMeaning F) where
   pub for_runs : ForRuns held fresh m
-  for_runs finds depth l ps =
+  for_runs finds depth over l ps =
       let s = standard held fresh m finds in
-      for_played s (partials_at s depth) held l (run_parts s (partials_at s depth) ps)
+      for_played s (partials_at s depth) held over l (run_parts s (partials_at s depth) ps)
 
   pub for_writes : ForWrites held fresh m
-  for_writes finds depth l ps t ts v w texts items bodies =
+  for_writes finds depth over l ps t ts v w texts items bodies =
       let s = standard held fresh m finds in
       let body = part_run s depth ps 0 in
       subst (λ (r : Run Reg). Ends r (concat texts) w)
-      (sym (for_runs finds depth l ps v ∙ ap (λ r. for_run fresh l.name body (part_run s depth ps 1) r v) items))
+      (sym (for_runs finds depth over l ps v ∙ ap (λ r. for_run fresh l.name body (part_run s depth ps 1) r v) items))
       (begun_ends fresh l.name (length (t ∷ ts)) body 0 (t ∷ ts) v w texts bodies)

@@ -5,7 +5,7 @@ use Rattle.std.proofs.lemmas.List.{append_assoc, append-nil}
 use Rattle.std.proofs.lemmas.Nat.{div-mul-add, mod-mul-add}
 use Rattle.std.proofs.lemmas.Bool.{ne_eqb}
 use Rattle.std.proofs.Math.Dec.{eqb-suc-zero}
-use Rattle.liquid_loops.specs.meaning.Cells.{begins, closes_row, column_at, opens_cell, opens_row, row_at, text_between}
+use Rattle.liquid_std.specs.meaning.iteration.Cells.{begins, closes_row, column_at, opens_cell, opens_row, row_at, text_between}
 use Rattle.loop_laws.specs.meaning.Rows.{AreRows, Fits, cell_text, cells_text, in_rows, row_text, rows_text}
 
 -- what a table writes from a place on, around these bodies

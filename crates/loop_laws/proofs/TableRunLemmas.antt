@@ -13,16 +13,17 @@ use Rattle.liquid_template.specs.meaning.Partials.{partials_at}
 use Rattle.liquid_template.specs.meaning.Run.{Action, Run}
 use Rattle.liquid_tags.specs.laws.LoopRuns.{cleared, leaves}
 use Rattle.liquid_tags.specs.meaning.Loops.{is_left}
-use Rattle.liquid_loops.specs.declared.loops.LoopShape.{LoopShape}
-use Rattle.liquid_loops.specs.declared.tables.Stage.{Stage}
-use Rattle.liquid_loops.specs.declared.tables.Stage.TheVariants.{Text, Body, End}
-use Rattle.liquid_loops.specs.declared.tables.TableShape.{TableShape}
-use Rattle.liquid_loops.specs.meaning.Cells.{text_between}
-use Rattle.liquid_loops.specs.meaning.Loops.{picked_items}
-use Rattle.liquid_loops.specs.meaning.Options.{option_number}
-use Rattle.liquid_loops.specs.meaning.Picked.{natural}
-use Rattle.liquid_loops.specs.meaning.Tables.{is_over_nil, table, table_over}
-use Rattle.liquid_cycle.specs.meaning.Held.{MarksIn}
+use Rattle.liquid_std.specs.declared.iteration.loops.LoopShape.{LoopShape}
+use Rattle.liquid_std.specs.declared.iteration.scalars.OverScalar.TheVariants.{Refused}
+use Rattle.liquid_std.specs.declared.iteration.tables.Stage.{Stage}
+use Rattle.liquid_std.specs.declared.iteration.tables.Stage.TheVariants.{Text, Body, End}
+use Rattle.liquid_std.specs.declared.iteration.tables.TableShape.{TableShape}
+use Rattle.liquid_std.specs.meaning.iteration.Cells.{text_between}
+use Rattle.liquid_std.specs.meaning.iteration.Loops.{picked_items}
+use Rattle.liquid_std.specs.meaning.iteration.Options.{option_number}
+use Rattle.liquid_std.specs.meaning.iteration.Picked.{natural}
+use Rattle.liquid_std.specs.meaning.iteration.Tables.{is_over_nil, table, table_over}
+use Rattle.liquid_std.specs.meaning.marks.Held.{MarksIn}
 use Rattle.liquid_std.specs.declared.blocks.StdBlockShape.TheVariants.{Tablerow}
 use Rattle.liquid_std.specs.declared.blocks.StdProgressShape.{StdProgressShape}
 use Rattle.liquid_std.specs.declared.blocks.StdProgressShape.TheVariants as progress
@@ -153,12 +154,12 @@ module _ {Reg : Type 0} (v : View Reg) (l : LoopShape) where
 
   over : (ts : List Tree) (columns : ℕ) → GoesOver v l ts columns → table_over v l ≡ Ok (Some (table ts columns))
   over ts columns goes =
-      ap (λ r. tabled r (picked_items v l) (option_number v l.options.cols)) goes.0
+      ap (λ r. tabled r (picked_items Refused v l) (option_number v l.options.cols)) goes.0
       ∙ ap (λ r. tabled (Ok false) r (option_number v l.options.cols)) goes.1 ∙ ap (tabled (Ok false) (Ok ts)) goes.2.1
       ∙ ap (λ k. Ok (Some (table ts k))) goes.2.2
 
   over_nil : is_over_nil v l.series ≡ Ok true → table_over v l ≡ Ok None
-  over_nil nothing = ap (λ r. tabled r (picked_items v l) (option_number v l.options.cols)) nothing
+  over_nil nothing = ap (λ r. tabled r (picked_items Refused v l) (option_number v l.options.cols)) nothing
 
 module _ {Reg F T P B Q : Type 0} (s : Setting Reg F T P B Q) (partials : List ℕ → Action Reg) (held : MarksIn Reg) (l : LoopShape)
     (parts : List (Action Reg)) where

@@ -8,8 +8,8 @@ use Rattle.liquid_template.specs.meaning.Actions.{and_then, asks, writes}
 use Rattle.liquid_template.specs.meaning.Run.{Action, Run}
 use Rattle.liquid_template.specs.meaning.Runs.{part_run}
 use Rattle.liquid_tags.specs.laws.LoopRuns.{cleared, leaves}
-use Rattle.liquid_loops.specs.meaning.Cells.{text_between}
-use Rattle.liquid_cycle.specs.meaning.Held.{MarksIn}
+use Rattle.liquid_std.specs.meaning.iteration.Cells.{text_between}
+use Rattle.liquid_std.specs.meaning.marks.Held.{MarksIn}
 use Rattle.liquid_std.specs.meaning.Standard.{standard}
 use Rattle.loop_laws.specs.laws.Tables.{TableWrites}
 use Rattle.loop_laws.specs.laws.Bodies.{Bodies, no_more, leaves_off, goes_on}

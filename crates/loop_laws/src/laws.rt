@@ -6,7 +6,7 @@ ghost use Rattle.liquid_plugins.specs.meaning.Chain.{FilterMeaning};
 ghost use Rattle.loop_laws.specs.laws.ForLoops.{ForRuns, ForWrites, GoesOverChosen, TakesElse};
 ghost use Rattle.loop_laws.specs.laws.Tables.{NilRuns, RowsExist, TableRuns, TableWrites};
 
-use liquid_cycle::HoldsMarks;
+use liquid_std::marks::HoldsMarks;
 
 /// A loop goes over the items of its series after the first `offset` ones, at most `limit` of them, and in reverse order
 /// if it is `reversed`. The order is turned last.

@@ -37,8 +37,9 @@ use Rattle.liquid_files.specs.declared.folder.Unread.{Unread}
 use Rattle.liquid_files.specs.meaning.Files.{Reads}
 use Rattle.page_site.specs.declared.fault.SiteFault.{SiteFault}
 use Rattle.page_site.specs.meaning.Faults.{partial_text}
-use Rattle.page_site.specs.meaning.Items.{file_in, page_name}
-use Rattle.page_site.specs.meaning.Partials.{partial_in}
+use Rattle.page_site.specs.declared.partials.PartialNames.{PartialNames}
+use Rattle.page_site.specs.meaning.Items.{file_in}
+use Rattle.page_site.specs.meaning.Partials.{partial_in, partial_name}
 
 choose : (b : Bool) (x : String Global) (rest : Option (String Global))
     → option_map string_bytes (cond b (Some x) rest) ≡ cond b (Some (string_bytes x)) (option_map string_bytes rest)
@@ -59,13 +60,13 @@ pub listed_names : {V : Type 0} (of : V → List (List ℕ)) (folder : Option (L
 listed_names of (Some there) v is = ap Some (sym is)
 listed_names of None v never = absurd never
 
-pub partials_listed : (r : Result (BTreeMap (String Global) (String Global)) SiteFault) (files : List ℕ → Option (List ℕ)) (folder : List ℕ)
-    (names : List (List ℕ)) (listed : Option (List (List ℕ))) → listed ≡ Some names
-    → IfOk r (λ partials. (name : List ℕ) → partial_text partials name ≡ partial_in files folder names name)
+pub partials_listed : (r : Result (BTreeMap (String Global) (String Global)) SiteFault) (called : PartialNames)
+    (files : List ℕ → Option (List ℕ)) (folder : List ℕ) (names : List (List ℕ)) (listed : Option (List (List ℕ))) → listed ≡ Some names
+    → IfOk r (λ partials. (name : List ℕ) → partial_text partials name ≡ partial_in called files folder names name)
     → IfOk r (λ partials. (names : List (List ℕ)) × (listed ≡ Some names)
-    × ((name : List ℕ) → partial_text partials name ≡ partial_in files folder names name))
-partials_listed (Ok partials) files folder names listed is h = (names, is, h)
-partials_listed (Err fault) files folder names listed is h = tt
+    × ((name : List ℕ) → partial_text partials name ≡ partial_in called files folder names name))
+partials_listed (Ok partials) called files folder names listed is h = (names, is, h)
+partials_listed (Err fault) called files folder names listed is h = tt
 
 or_none : (o : Option (List ℕ)) → option_or o None ≡ o
 or_none None = refl
@@ -83,10 +84,10 @@ or_chosen None false text before t is = refl
 or_chosen (Some r) b text before t is = refl
 
 -- one more partial is read
-pub one_read : (rest : Option (List ℕ)) (name other : List ℕ) (files : List ℕ → Option (List ℕ)) (folder : List ℕ)
+pub one_read : (called : PartialNames) (rest : Option (List ℕ)) (name other : List ℕ) (files : List ℕ → Option (List ℕ)) (folder : List ℕ)
     (old new : BTreeMap (String Global) (String Global)) (text : List ℕ) → files (file_in folder other) ≡ Some text
-    → partial_text new name ≡ (if bytes_eq (page_name other) name then Some text else partial_text old name)
+    → partial_text new name ≡ (if bytes_eq (partial_name called other) name then Some text else partial_text old name)
     → option_or rest (partial_text new name)
-    ≡ option_or (option_or rest (if bytes_eq (page_name other) name then files (file_in folder other) else None)) (partial_text old name)
-one_read rest name other files folder old new text is put =
-    ap (option_or rest) put ∙ or_chosen rest (bytes_eq (page_name other) name) (files (file_in folder other)) (partial_text old name) text is
+    ≡ option_or (option_or rest (if bytes_eq (partial_name called other) name then files (file_in folder other) else None)) (partial_text old name)
+one_read called rest name other files folder old new text is put =
+    ap (option_or rest) put ∙ or_chosen rest (bytes_eq (partial_name called other) name) (files (file_in folder other)) (partial_text old name) text is

@@ -35,7 +35,9 @@ pub trait Engine {
         source: Source<'_>,
         names: Object,
     ) -> Result<String, Failure>
-        ensures renders { IfOk result (λ page. answers self.old source.entry.text.now (members_view names.entries) (Some (string_bytes page))) }
-        ensures fails { IfErr result (λ failure. failure ≢ Failure.Memory → answers self.old source.entry.text.now (members_view names.entries) None) }
+        ensures renders { IfOk result (λ page. answers self.old source.entry.text.now (members_view names.entries)
+            (Some (string_bytes page))) }
+        ensures fails { IfErr result (λ failure. failure ≢ Failure.Memory →
+            answers self.old source.entry.text.now (members_view names.entries) None) }
         ensures same { StaysWithin (answers self.old) (answers self.new) };
 }

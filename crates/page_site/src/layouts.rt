@@ -83,7 +83,8 @@ fn render<E: Engine>(
     source: Source<'_>,
     names: Object,
 ) -> Result<String, PageFault>
-    ensures renders { IfOk result (λ page. E.answers engine.old source.entry.text.now (members_view names.entries) (Some (string_bytes page))) }
+    ensures renders { IfOk result (λ page. E.answers engine.old source.entry.text.now (members_view names.entries)
+        (Some (string_bytes page))) }
     ensures trouble { IfErr result (λ fault. IfSome (trouble_of fault)
         (λ trouble. (trouble ≡ unrendered) × E.answers engine.old source.entry.text.now (members_view names.entries) None)) }
     ensures same { StaysWithin (E.answers engine.old) (E.answers engine.new) }

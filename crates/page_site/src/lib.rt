@@ -8,7 +8,7 @@ pub mod items;
 pub mod layouts;
 pub mod messages;
 pub mod partials;
-pub mod site;
+pub mod writing;
 mod yaml;
 
 pub use engine::{Engine, Failure, Source};
@@ -16,5 +16,5 @@ pub use fault::{PageFault, SiteFault};
 pub use items::{Item, add_items, find_clash, is_page, page_name};
 pub use layouts::{Partials, render_page};
 pub use messages::{reason_of, report};
-pub use partials::{read_partials, read_text};
-pub use site::{Site, Tally, make, write_item, write_items};
+pub use partials::{PartialNames, read_partials, read_text};
+pub use writing::{Site, Tally, make, write_item, write_items};

@@ -42,9 +42,10 @@ pub(crate) fn add_names(
     Ok(())
 }
 
-/// Returns `true` if a colon follows: the word before it is the name of an argument.
-fn is_key(following: &str) -> bool {
-    following.trim_start().starts_with(":")
+/// Returns `true` if a colon or an equals sign follows: the word before it is the name of an argument, or gets a value.
+pub(crate) fn is_key(following: &str) -> bool {
+    let following = following.trim_start();
+    following.starts_with(":") || following.starts_with("=") && !following.starts_with("==")
 }
 
 /// Returns what follows a text between quotes, of which the first was read, or else all that follows.

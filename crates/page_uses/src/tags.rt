@@ -1,5 +1,6 @@
 //! What tags bind, and the partials that they name.
 
+use crate::names::is_key;
 use crate::uses::Uses;
 use liquid_grammar::{Literal, TokenKind, TokenParts, match_identifier, next_token};
 use std::alloc::{AllocError, Global};
@@ -14,8 +15,8 @@ const BINDING: [&str; 6] = [
     "tablerow",
 ];
 
-/// The tags whose first token names a partial.
-const CALLING: [&str; 2] = ["include", "render"];
+/// The tags whose first token names a partial. The tag `seo` of Jekyll always calls the partial of that name.
+const CALLING: [&str; 4] = ["include", "include_cached", "include_relative", "render"];
 
 /// Adds what a tag binds, and the partial that it names.
 pub(crate) fn add_tag(
@@ -30,6 +31,9 @@ pub(crate) fn add_tag(
     if CALLING.contains(&name) {
         add_partial(alloc, uses, tokens)?;
         return add_pairs(alloc, uses, tokens);
+    }
+    if name == "seo" {
+        uses.partials.insert(String::from_str(alloc, name)?)?;
     }
     Ok(())
 }
@@ -60,15 +64,14 @@ fn add_partial(alloc: Global, uses: &mut Uses, tokens: &str) -> Result<(), Alloc
     Ok(())
 }
 
-/// Adds the names before colons, and those after `as`.
+/// Adds the names of arguments, and those after `as`.
 fn add_pairs(alloc: Global, uses: &mut Uses, tokens: &str) -> Result<(), AllocError> {
     let mut rest = tokens;
     let mut follows_as = false;
     'tokens: while let Some(token) = next_token(rest) {
         rest = token.rest;
         if let Some((name, _)) = match_identifier(token.text) {
-            let is_key = rest.trim_start().starts_with(":");
-            if is_key || follows_as {
+            if is_key(rest) || follows_as {
                 uses.bound.insert(String::from_str(alloc, name)?)?;
             }
         }

@@ -9,6 +9,9 @@ use liquid_value::Object;
 use std::alloc::{AllocError, Global};
 use std::collections::{BTreeMap, BTreeSet};
 
+/// The block of Jekyll whose tokens are options, and no names.
+const OPTIONED: &str = "highlight";
+
 /// A place in a file, from 1. A column counts characters.
 #[derive(Debug, Drop)]
 pub struct Place {
@@ -96,7 +99,9 @@ impl Uses {
                     } else {
                         let tokens = before(tag.tokens, after);
                         add_tag(alloc, self, tag.name, tokens)?;
-                        add_names(alloc, self, origin, tokens, after.len())?;
+                        if tag.name != OPTIONED {
+                            add_names(alloc, self, origin, tokens, after.len())?;
+                        }
                     }
                 }
                 Element::Raw(_) | Element::Invalid(_) => {}

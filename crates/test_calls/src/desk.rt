@@ -1,10 +1,10 @@
 //! A register of a host's own that holds the marks of the standard tags.
 ghost use Rattle.std.specs.Prelude.{refl};
-ghost use Rattle.liquid_cycle.specs.meaning.Marks.{marks_of, no_marks};
+ghost use Rattle.liquid_std.specs.meaning.marks.Marks.{marks_of, no_marks};
 
 use liquid_core::Fresh;
-use liquid_cycle::marks::MarksShape;
-use liquid_cycle::{HoldsMarks, Marks};
+use liquid_std::marks::marks::MarksShape;
+use liquid_std::marks::{HoldsMarks, Marks};
 use std::alloc::{AllocError, Global};
 
 /// Marks, and the number of visits.

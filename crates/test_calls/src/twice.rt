@@ -2,8 +2,8 @@
 ghost use Rattle.std.specs.Prelude.{◌++◌, codes, Ok};
 
 use liquid_core::Error;
+use liquid_extend::TextBlock;
 use std::alloc::Global;
-use text_blocks::TextBlock;
 
 /// The block `twice`, which writes the text of its body twice.
 #[derive(Debug, Clone, Copy, Drop)]

@@ -4,11 +4,11 @@ ghost use Rattle.text_tags.specs.meaning.Tags.{tag_given};
 use crate::kind::{TagAnswer, TextTag};
 use crate::node::TextTagNode;
 use liquid_error::Error;
+use liquid_extend::read_arguments;
 use liquid_filters::FilterPlugin;
 use liquid_parser::{ParseTag, TagReflection, TagTokenIter};
 use liquid_plugins::{ParseFilter, PluginRegistry};
 use std::alloc::Global;
-use tag_arguments::read_arguments;
 
 /// A kind of text tag as a plug-in.
 ///

@@ -1,7 +1,7 @@
 //! Pages in the caller's memory, and how they end.
 use liquid_c::each::render_each;
 use liquid_c::page::{
-    BYTES, DECIMALS, EMPTY, LENIENT, NOW, Outcome, Page, SANDBOXED, STANDARD, TURNS,
+    BYTES, DECIMALS, EMPTY, JEKYLL, LENIENT, NOW, Outcome, Page, SANDBOXED, STANDARD, TURNS,
 };
 use liquid_c::rendering::render;
 use liquid_pages::PartialBytes;
@@ -66,7 +66,7 @@ type Row<'a> = (
     &'a [u8],
 );
 
-static ROWS: [Row<'static>; 17] = [
+static ROWS: [Row<'static>; 21] = [
     (b"", b"{}", 0, 0, 0, 0, 0, 0, b""),
     (b"a{{ x }}c", b"{\"x\": 7}", 0, 0, 9, 0, 0, 3, b"a7c"),
     (b"a{{ x }}c", b"{\"x\": 7}", 0, 0, 2, 7, 0, 3, b"a7"),
@@ -143,7 +143,31 @@ static ROWS: [Row<'static>; 17] = [
         4,
         b"1.50",
     ),
-    (b"a", b"{}", 0, 32, 9, 8, 0, 0, b""),
+    (
+        b"{% include a y=x %}<{{ none.b }}>",
+        b"{\"x\": 1}",
+        1,
+        JEKYLL,
+        9,
+        0,
+        0,
+        4,
+        b"[]<>",
+    ),
+    (
+        b"{{ 'b c' | relative_url }}",
+        b"{}",
+        0,
+        JEKYLL,
+        9,
+        0,
+        0,
+        6,
+        b"/b%20c",
+    ),
+    (b"\xff", b"{}", 0, JEKYLL, 9, 5, 0, 0, b""),
+    (b"{% include a %}", b"{}", 2, JEKYLL, 9, 5, 0, 0, b""),
+    (b"a", b"{}", 0, 64, 9, 8, 0, 0, b""),
 ];
 
 /// Returns `true` if a row's page ends as the row says, with the output of the row and no other byte.

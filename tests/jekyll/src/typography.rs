@@ -1,5 +1,5 @@
 //! Rows of texts with typographic signs in place of plain ones.
-use jekyll_texts::smartify;
+use liquid_jekyll::text::smartify;
 use rows::{Line, rows_hold};
 use std::alloc::Global;
 use std::test::Fail;

@@ -1,14 +1,20 @@
 //! `liquid page` and `liquid check` over files in memory: what they print, and which files they write.
 use crate::sites::{add_files, add_trees, has_files};
 use filter_dates::moment_of;
-use liquid_cycle::Marks;
+use jekyll_language::{SiteBlocks, SiteFilters, SiteTags, site_language};
+use liquid_dates::DateTime;
 use liquid_error::Error;
 use liquid_files::InMemoryFolder;
 use liquid_filters::{FilterPlugin, StdKind, filters};
-use liquid_page::{Explain, NoRequest, Request, Task, check_pages, read_words, run_page};
+use liquid_page::{
+    AsItIs, Explain, FromJekyll, NoRequest, Request, Rewrite, Task, check_pages, read_render_words,
+    read_words, run_page,
+};
 use liquid_pages::PageLimit;
-use liquid_parser::Language;
+use liquid_parser::{Language, ParseBlock, ParseTag};
+use liquid_plugins::{Discreet, ParseFilter};
 use liquid_scalar::Scalar;
+use liquid_std::marks::Marks;
 use liquid_std::{StdBlocks, StdTags};
 use liquid_value::Value;
 use page_site::{Partials, Source};
@@ -17,8 +23,6 @@ use serde_json::Value as Json;
 use std::alloc::{AllocError, Global};
 use std::rc::Rc;
 use std::test::Fail;
-
-type Standard = Language<FilterPlugin<StdKind>, StdTags, StdBlocks>;
 
 /// Says where an error is, and nothing more.
 #[derive(Drop)]
@@ -47,16 +51,14 @@ struct Ended {
     status: u8,
 }
 
-fn language_at(alloc: Global, word: Option<&str>) -> Option<Rc<Standard>> {
-    let moment = match word {
+fn moment_in(alloc: Global, word: Option<&str>) -> Option<Option<DateTime>> {
+    match word {
         Some(word) => {
             let text = String::from_str(alloc, word).ok()?;
-            moment_of(alloc, &Value::Scalar(Scalar::Str(text)), None).ok()?
+            moment_of(alloc, &Value::Scalar(Scalar::Str(text)), None).ok()
         }
-        None => None,
-    };
-    let language = liquid_std::language(alloc, filters(alloc, moment).ok()?).ok()?;
-    Rc::new(alloc, language).ok()
+        None => Some(None),
+    }
 }
 
 fn ended(out: Vec<u8>, err: Vec<u8>, status: u8) -> Option<Ended> {
@@ -73,28 +75,45 @@ fn perform(
     request: &Request<'_>,
     files: &mut InMemoryFolder,
 ) -> Option<Ended> {
-    let language = language_at(alloc, request.moment)?;
+    let moment = moment_in(alloc, request.moment)?;
+    if request.is_jekyll {
+        let language = Rc::new(alloc, site_language(alloc, moment).ok()?).ok()?;
+        perform_in::<FromJekyll, SiteFilters, SiteTags, SiteBlocks>(
+            alloc, language, task, request, files,
+        )
+    } else {
+        let language = liquid_std::language(alloc, filters(alloc, moment).ok()?).ok()?;
+        let language = Rc::new(alloc, language).ok()?;
+        perform_in::<AsItIs, FilterPlugin<StdKind>, StdTags, StdBlocks>(
+            alloc, language, task, request, files,
+        )
+    }
+}
+
+fn perform_in<R, F, T, B>(
+    alloc: Global,
+    language: Rc<Language<F, T, B>>,
+    task: Task,
+    request: &Request<'_>,
+    files: &mut InMemoryFolder,
+) -> Option<Ended>
+where
+    R: Rewrite,
+    F: ParseFilter + Drop,
+    T: ParseTag<F> + Drop,
+    B: ParseBlock<F> + Drop,
+    T::Node: Discreet<Marks>,
+    B::Node: Discreet<Marks>,
+{
     let mut out = Vec::new(alloc);
     let mut err = Vec::new(alloc);
     let status = match task {
-        Task::Page => run_page::<
-            Marks,
-            FilterPlugin<StdKind>,
-            StdTags,
-            StdBlocks,
-            Places,
-            InMemoryFolder,
-            _,
-            _,
-        >(alloc, language, Places, request, files, &mut out, &mut err).status,
-        Task::Check => check_pages::<
-            FilterPlugin<StdKind>,
-            StdTags,
-            StdBlocks,
-            Places,
-            InMemoryFolder,
-            _,
-        >(alloc, &language, &Places, request, files, &mut err),
+        Task::Page => run_page::<Marks, R, F, T, B, Places, InMemoryFolder, _, _>(
+            alloc, language, Places, request, files, &mut out, &mut err,
+        ).status,
+        Task::Check => check_pages::<R, F, T, B, Places, InMemoryFolder, _>(
+            alloc, &language, &Places, request, files, &mut err,
+        ),
     };
     ended(out, err, status)
 }
@@ -116,6 +135,47 @@ fn run(alloc: Global, words: &[String], files: &mut InMemoryFolder) -> Option<En
             status: 2,
         }),
         Err(NoRequest::Memory) => None,
+    }
+}
+
+/// Writes what the words of `render --jekyll` say: the template, the object, the folder and whether a missing name is nil.
+fn render_words_hold(alloc: Global, row: &Line) -> bool {
+    let Some(words) = row.list(0).and_then(|list| words_of(alloc, list)) else {
+        return false;
+    };
+    let said = match read_render_words(alloc, words.as_slice()) {
+        Ok(request) => format!(in alloc;
+            "{} {} {} {} {}",
+            request.templates.first().map_or("", |word| *word),
+            request.data_words.first().map_or("", |word| *word),
+            request.folder.unwrap_or("-"),
+            request.output.unwrap_or("-"),
+            request.options.leniency.is_lenient(),
+        ),
+        Err(NoRequest::Wrong(text)) => {
+            String::from_str(alloc, text.as_str().lines().next().unwrap_or(""))
+        }
+        Err(_) => return false,
+    };
+    said.is_ok_and(|said| row.text(1) == Some(said.as_str()))
+}
+
+/// Returns `true` if a command's help has at most 80 columns.
+fn help_is_narrow(alloc: Global, row: &Line) -> bool {
+    let Some(words) = row.list(0).and_then(|list| words_of(alloc, list)) else {
+        return false;
+    };
+    let Some((command, rest)) = words.as_slice().split_first() else {
+        return false;
+    };
+    let answer = match command.as_str() {
+        "page" => read_words(alloc, Task::Page, rest),
+        "check" => read_words(alloc, Task::Check, rest),
+        _ => read_render_words(alloc, rest),
+    };
+    match answer {
+        Err(NoRequest::Help(text)) => text.as_str().lines().all(|line| line.chars().count() <= 80),
+        _ => false,
     }
 }
 
@@ -160,6 +220,12 @@ const PRINTED: &str =
 [[["t", "{{ n }}{{ m }}"], ["a.json", "{\"n\":1,\"m\":1}"], ["b.json", "{\"n\":2}"]], [], ["page", "t", "--data", "a.json", "--data", "b.json"], "21", "", 0, []]
 [[["t", "{{ c.n }}"], ["a.json", "{\"n\":1.50}"]], [], ["page", "t", "--data", "c=a.json"], "1.50", "", 0, []]
 [[["t", "{% for p in people %}{{ p.name }};{% endfor %}"], ["d/people.csv", "name,age\nAda,1\nBob,2\n"]], [], ["page", "t", "--data", "d/people.csv"], "Ada;Bob;", "", 0, []]
+[[["t", "{% for p in staff %}{{ p.name }};{% endfor %}"], ["d/people.csv", "name,age\nAda,1\nBob,2\n"]], [], ["page", "t", "--data", "staff=d/people.csv"], "Ada;Bob;", "", 0, []]
+[[["t", "{{ a.b }}"], ["d.json", "{\"b\": 1}"]], [], ["page", "t", "--data", "a=d.json"], "1", "", 0, []]
+[[["t", "x"]], [], ["page", "-", "--data", "-"], "", "liquid: standard input can be one template, one file of data or the lines of --watch", 2, []]
+[[["t", "x"]], [], ["page", "/dev/stdin", "--data", "-"], "", "liquid: standard input can be one template, one file of data or the lines of --watch", 2, []]
+[[["t", "x"]], [], ["page", "t", "--data", "a=-", "--data", "-"], "", "liquid: standard input can be one template, one file of data or the lines of --watch", 2, []]
+[[["t", "x"]], [], ["page", "-", "--watch", "-o", "o"], "", "liquid: standard input can be one template, one file of data or the lines of --watch", 2, []]
 [[["t", "\ufeff{{ n }}"], ["d.json", "\ufeff{\"n\":1}"]], [], ["page", "t", "--data", "d.json"], "1", "", 0, []]
 [[["t", "{{ n }}"], ["/dev/stdin", "{\"n\":1}"]], [], ["page", "t", "--data", "-"], "1", "", 0, []]
 [[["/dev/stdin", "x"]], [], ["page", "-"], "x", "", 0, []]
@@ -182,6 +248,8 @@ const WRITTEN: &str =
 [[["s/a.liquid", "{{ n }}"], ["s/b.css", "{{ n }}"], ["s/c/d.html", "---\nk: 1\n---\n{{ n }}{{ page.k }}"]], [["s", ["a.liquid", "b.css", "c/d.html"]]], ["page", "s", "-o", "o/", "--set", "n=7"], "", "", 0, [["o/a", "7"], ["o/b.css", "{{ n }}"], ["o/c/d.html", "71"]]]
 [[["s/a", "---\n---\n{{ n }}"], ["s/b", "---\n---\nx"]], [["s", ["a", "b"]]], ["page", "s", "-o", "o/"], "", "s/a: liquid: Unknown variable\n", 1, [["o/a"], ["o/b", "x"]]]
 [[["s/a", "x"], ["s/a.liquid", "y"]], [["s", ["a", "a.liquid"]]], ["page", "s", "-o", "o/"], "", "liquid: two pages would be o/a\n", 1, [["o/a"]]]
+[[["t", "x{{ n }}"], ["o.html", "old"]], [], ["page", "t", "-o", "o.html"], "", "t: liquid: Unknown variable\n", 1, [["o.html", "old"]]]
+[[["t", "x"], ["u", "{% if %}"], ["o/t", "old"], ["o/u", "old"]], [], ["page", "t", "u", "-o", "o/"], "", "u: liquid: Token expected (line 1, column 6)\n", 1, [["o/t", "x"], ["o/u", "old"]]]
 [[["t", "x"]], [], ["page", "t", "-o", "t"], "", "liquid: cannot write t: the page is made from it\n", 1, [["t", "x"]]]
 [[["t", "x"], ["d.json", "{}"]], [], ["page", "t", "--data", "d.json", "-o", "d.json"], "", "liquid: cannot write d.json: it is a file of data\n", 1, [["d.json", "{}"]]]
 [[["t", "x"]], [], ["page", "t", "gone", "-o", "o/"], "", "liquid: cannot read gone: there is no such file or folder\n", 3, [["o/t", "x"], ["o/gone"]]]"#;
@@ -221,4 +289,43 @@ const CHECKED: &str = r#"[[["t", "{{ n }}"]], [], ["check", "t"], "", "", 0, []]
 #[test]
 fn templates_are_checked(rt: HostRuntime) -> Result<(), Fail> {
     rows_hold(rt.alloc(), CHECKED, command_holds)
+}
+
+const JEKYLL: &str =
+    r#"[[["t", "{% include nav/a.html x=\"1\" %}{{ none.b }}"], ["p/nav/a.html", "[{{ include.x }}]"]], [["p", ["nav/a.html"]]], ["page", "--jekyll", "t", "--partials", "p"], "[1]", "", 0, []]
+[[["t", "{% include a.liquid %}"], ["p/a.liquid", "{{ '/b c' | relative_url }}"]], [["p", ["a.liquid"]]], ["page", "--jekyll", "t", "--partials", "p", "--set", "site.baseurl=/s"], "/s/b%20c", "", 0, []]
+[[["t", "{% include a %}"], ["p/a.liquid", "A"]], [["p", ["a.liquid"]]], ["page", "--jekyll", "t", "--partials", "p"], "", "t: liquid: Unknown partial-template\n", 1, []]
+[[["t", "{% include a.html %}"]], [], ["page", "t"], "", "t: liquid: Unknown variable\n", 1, []]
+[[["t", "[{{ a[none].b }}{{ a[a] | default: \"x\" }}{% if a[none] %}y{% endif %}]"]], [], ["page", "--jekyll", "t", "--set", "a.b=1"], "[x]", "", 0, []]
+[[["t", "{{ a[a] }}"]], [], ["page", "--lenient", "t", "--set", "a.b=1"], "", "t: liquid: Expected scalar\n", 1, []]
+[[["t", "{{ none }}"]], [], ["page", "--jekyll", "--strict", "t"], "", "t: liquid: Unknown variable\n", 1, []]
+[[["t", "---\nlayout: l\n---\n{% link a.md %}"], ["p/layouts/l", "<{{ content }}>{% include a.html %}"], ["p/a.html", "A"], ["d.json", "{\"site\": {\"pages\": [{\"path\": \"a.md\", \"url\": \"/a/\"}]}}"]], [["p", ["layouts/l", "a.html"]]], ["page", "--jekyll", "t", "--partials", "p", "--data", "d.json"], "</a/>A", "", 0, []]
+[[["t", "a\n{% include nav/a.html %}{{ x | none }}"], ["p/nav/a.html", "{% link %}"], ["p/b.html", ""]], [["p", ["nav/a.html", "b.html"]]], ["check", "--jekyll", "t", "--partials", "p"], "", "nav/a.html: liquid: Token expected (line 1, column 8)\nt: liquid: Unknown filter (line 2, column 32)\nwarning: nothing includes the partial 'b.html'\n", 1, []]"#;
+
+#[test]
+fn templates_of_jekyll_are_rendered(rt: HostRuntime) -> Result<(), Fail> {
+    rows_hold(rt.alloc(), JEKYLL, command_holds)
+}
+
+const RENDER_WORDS: &str = r#"[["--jekyll", "t", "g.json"], "t g.json - - true"]
+[["t", "--standard", "g.json", "p", "--jekyll", "--lenient"], "t g.json p - true"]
+[["--jekyll", "-o", "o.html", "--strict", "t", "g.json"], "t g.json - o.html false"]
+[["--jekyll", "-", "-"], "liquid: standard input can be one template, one file of data or the lines of --watch"]
+[["--jekyll", "/dev/stdin", "-", "p"], "liquid: standard input can be one template, one file of data or the lines of --watch"]
+[["--jekyll", "t"], "error: the following required arguments were not provided:"]
+[["--jekyll", "t", "g.json", "p", "q"], "error: unexpected argument 'q' found"]
+[["--jekyll", "t", "g.json", "--turns", "x"], "liquid: --turns x: not a whole number, such as 1000, 50k or 2M"]"#;
+
+#[test]
+fn words_of_render_are_read(rt: HostRuntime) -> Result<(), Fail> {
+    rows_hold(rt.alloc(), RENDER_WORDS, render_words_hold)
+}
+
+const HELP: &str = r#"[["page", "--help"]]
+[["check", "--help"]]
+[["render", "--jekyll", "--help"]]"#;
+
+#[test]
+fn help_fits_80_columns(rt: HostRuntime) -> Result<(), Fail> {
+    rows_hold(rt.alloc(), HELP, help_is_narrow)
 }

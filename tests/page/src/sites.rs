@@ -6,8 +6,8 @@ use liquid_files::InMemoryFolder;
 use liquid_scalar::Scalar;
 use liquid_value::{Object, SharedObject, Value};
 use page_site::{
-    Engine, Failure, Item, Partials, Site, Source, Tally, add_items, find_clash, read_partials,
-    write_items,
+    Engine, Failure, Item, PartialNames, Partials, Site, Source, Tally, add_items, find_clash,
+    read_partials, write_items,
 };
 use rows::{Line, rows_hold};
 use serde_json::Value as Json;
@@ -120,7 +120,7 @@ fn partials_of(alloc: Global, files: &mut InMemoryFolder, folder: &str) -> Optio
     if folder.is_empty() {
         return Some(BTreeMap::new(alloc));
     }
-    read_partials(alloc, files, folder).ok()
+    read_partials(alloc, files, PartialNames::WithoutEnding, folder).ok()
 }
 
 /// Returns what is printed about the site that a row's words name, or which path two of its pages go to.

@@ -1,11 +1,11 @@
 //! Chains of filters, made by hand.
 use crate::made::{arguments_in, path_at};
-use crate::runtimes::{Check, rows_hold_over_both};
+use crate::runtimes::{Check, rows_hold_over_all};
 use crate::shown::displays;
 use liquid_core::model::ValueCow;
 use liquid_core::parser::Filter;
 use liquid_core::runtime::Runtime;
-use liquid_core::{Error, ValueView};
+use liquid_core::{Error, Leniency, ValueView};
 use liquid_plugins::{Expression, FilterChain, ParseFilter};
 use rows::Line;
 use serde_json::Value as Json;
@@ -22,14 +22,16 @@ pub(crate) fn is_rendered(alloc: Global, answer: Result<ValueCow<'_>, Error>, te
 }
 
 /// Chains: the first value and its indexes, and the filters, each with its arguments; then the text that the chain
-/// shows, and its result; and its result with lenient names, if that is something else.
+/// shows, and its result; its result with lenient names, if that is something else; and its result with lenient indexes,
+/// if that is something else again.
 static ROWS: &str =
     r#"[{"text": "a"}, [], [["append", [{"text": "b"}]], ["append", [1]]], "\"a\" | append | append", "ab1"]
 ["x", [], [], "x | ", "liquid: Unknown variable\n  with:\n    requested variable=x\n", ""]
 [5, [], [["fail", []]], "5 | fail", "liquid: bad\nfrom: Filter error\n  with:\n    filter=fail\n    input=5\n"]
-["box", ["one"], [], "box[one] | ", "liquid: Expected scalar\n  with:\n    found=[1, ]\n"]
-["x", ["y"], [], "x[y] | ", "liquid: Unknown variable\n  with:\n    requested variable=y\n", "liquid: Expected scalar\n  with:\n    found=nil\n"]
-["x", ["one", "y"], [], "x[one][y] | ", "liquid: Expected scalar\n  with:\n    found=[1, ]\n"]
+["box", ["one"], [], "box[one] | ", "liquid: Expected scalar\n  with:\n    found=[1, ]\n", "liquid: Expected scalar\n  with:\n    found=[1, ]\n", ""]
+["x", ["y"], [], "x[y] | ", "liquid: Unknown variable\n  with:\n    requested variable=y\n", "liquid: Expected scalar\n  with:\n    found=nil\n", ""]
+["x", ["one", "y"], [], "x[one][y] | ", "liquid: Expected scalar\n  with:\n    found=[1, ]\n", "liquid: Expected scalar\n  with:\n    found=[1, ]\n", ""]
+["box", ["one"], [["append", [{"text": "b"}]]], "box[one] | append", "liquid: Expected scalar\n  with:\n    found=[1, ]\n", "liquid: Expected scalar\n  with:\n    found=[1, ]\n", "b"]
 ["list", [{"text": "size"}, {"text": "size"}], [], "list[\"size\"][\"size\"] | ", "2"]
 ["list", [-11], [], "list[-11] | ", "liquid: Unknown index\n  with:\n    variable=list\n    requested index=-11\n    available indexes=0..9, first, last\n", ""]
 ["box", ["word"], [["append", ["word"]]], "box[word] | append", "7part"]
@@ -87,11 +89,14 @@ fn chain_of(alloc: Global, row: &Line) -> Option<FilterChain<AnyFilter>> {
     }
 }
 
-/// Returns the result of the chain of a row with strict names, or with lenient ones.
-fn expected(row: &Line, is_lenient: bool) -> Option<&str> {
-    match row.text(5) {
-        Some(text) if is_lenient => Some(text),
-        _ => row.text(4),
+/// Returns the result of the chain of a row over a runtime of this leniency.
+fn expected(row: &Line, leniency: Leniency) -> Option<&str> {
+    let strict = row.text(4);
+    let lenient = row.text(5).or(strict);
+    match leniency {
+        Leniency::Strict => strict,
+        Leniency::Paths => lenient,
+        Leniency::Indexes => row.text(6).or(lenient),
     }
 }
 
@@ -113,7 +118,7 @@ fn has_results<X: Filter, R: Runtime>(
     row: &Line,
     runtime: &R,
 ) -> bool {
-    match (row.text(3), expected(row, runtime.is_lenient())) {
+    match (row.text(3), expected(row, runtime.leniency())) {
         (Some(shown), Some(answer)) => has_result(alloc, chain, shown, answer, runtime),
         _ => false,
     }
@@ -129,7 +134,7 @@ pub(crate) fn chain_has_results<R: Runtime>(alloc: Global, row: &Line, runtime: 
 
 #[test]
 fn chains_come_to_their_values(rt: HostRuntime) -> Result<(), Fail> {
-    rows_hold_over_both(rt.alloc(), Check::Chain, ROWS)
+    rows_hold_over_all(rt.alloc(), Check::Chain, ROWS)
 }
 
 /// Returns `true` if trying gives the value that evaluating gives, or nothing if that is nil because names are lenient.
@@ -171,5 +176,5 @@ pub(crate) fn entry_is_tried<R: Runtime>(alloc: Global, row: &Line, runtime: &R)
 
 #[test]
 fn what_is_tried_is_not_refused(rt: HostRuntime) -> Result<(), Fail> {
-    rows_hold_over_both(rt.alloc(), Check::Entry, ROWS)
+    rows_hold_over_all(rt.alloc(), Check::Entry, ROWS)
 }

@@ -2,6 +2,7 @@
 use crate::made::{list_of, named, path, word};
 use crate::runtimes::{Check, rows_hold_over};
 use crate::shown::{displays, is_answer};
+use liquid_core::Leniency;
 use liquid_core::model::{Scalar, Value};
 use liquid_core::runtime::Runtime;
 use liquid_plugins::{Expression, Variable};
@@ -211,5 +212,5 @@ static PATHS: &str = r#"["box", "word", "box.part", "one"]"#;
 
 #[test]
 fn a_path_is_tried_index_by_index(rt: HostRuntime) -> Result<(), Fail> {
-    rows_hold_over(rt.alloc(), Check::Path, PATHS, false)
+    rows_hold_over(rt.alloc(), Check::Path, PATHS, Leniency::Strict)
 }

@@ -1,6 +1,7 @@
 //! What tests check over a runtime.
 use crate::chains::{chain_has_results, entry_is_tried};
 use crate::expressions::path_is_tried;
+use liquid_core::Leniency;
 use liquid_core::model::{Object, to_object};
 use liquid_core::runtime::{BuiltRuntime, Runtime, RuntimeBuilder};
 use rows::{Line, holds};
@@ -58,31 +59,32 @@ fn globals(alloc: Global) -> Option<Object> {
     }
 }
 
-/// Returns a runtime with these globals, with lenient names or not.
-fn runtime(alloc: Global, globals: Object, is_lenient: bool) -> BuiltRuntime<(), ()> {
+/// Returns a runtime of this leniency with these globals.
+fn runtime(alloc: Global, globals: Object, leniency: Leniency) -> BuiltRuntime<(), ()> {
     RuntimeBuilder::new(alloc)
         .set_globals(globals)
-        .set_lenient(is_lenient)
+        .set_leniency(leniency)
         .build()
 }
 
-/// Fails for the first row of a table that does not pass a check over a runtime with the globals, with lenient names or
-/// not. No other function here names its type in a call that is generic in the runtime: each that does is checked
+/// Fails for the first row of a table that does not pass a check over a runtime of this leniency with the globals. No other function here names its type in a call that is generic in the runtime: each that does is checked
 /// against all that a runtime promises.
 pub(crate) fn rows_hold_over(
     alloc: Global,
     check: Check,
     rows: &str,
-    is_lenient: bool,
+    leniency: Leniency,
 ) -> Result<(), Fail> {
     match globals(alloc) {
-        Some(globals) => rows_hold_in(alloc, check, rows, &runtime(alloc, globals, is_lenient)),
+        Some(globals) => rows_hold_in(alloc, check, rows, &runtime(alloc, globals, leniency)),
         None => Err(Fail::from("the globals are not made")),
     }
 }
 
-/// Fails for the first row of a table that does not pass a check with strict names, and then with lenient names.
-pub(crate) fn rows_hold_over_both(alloc: Global, check: Check, rows: &str) -> Result<(), Fail> {
-    rows_hold_over(alloc, check, rows, false)?;
-    rows_hold_over(alloc, check, rows, true)
+/// Fails for the first row of a table that does not pass a check with strict names, with lenient names, and then with
+/// lenient indexes.
+pub(crate) fn rows_hold_over_all(alloc: Global, check: Check, rows: &str) -> Result<(), Fail> {
+    rows_hold_over(alloc, check, rows, Leniency::Strict)?;
+    rows_hold_over(alloc, check, rows, Leniency::Paths)?;
+    rows_hold_over(alloc, check, rows, Leniency::Indexes)
 }

@@ -35,7 +35,7 @@ fn block_holds(alloc: Global, block: Blocks, line: &str) -> bool {
 }
 
 #[test]
-fn tags_and_blocks_tell_about_themselves(rt: HostRuntime) -> Result<(), Fail> {
+fn tags_and_blocks_describe_themselves(rt: HostRuntime) -> Result<(), Fail> {
     let alloc = rt.alloc();
     let tags = [
         Tags::Assign,

@@ -2,7 +2,7 @@
 use liquid_core::Discreet;
 use liquid_core::parser::{Language, NoPlugin, ParseBlock, ParseFilter, ParseTag, PluginRegistry};
 use liquid_pages::{
-    PageFault, PageFrame, PageOptions, PageText, PartialBytes, PreparedPage, Rendered,
+    Leniency, PageFault, PageFrame, PageOptions, PageText, PartialBytes, PreparedPage, Rendered,
     prepare_page, render_page, render_prepared,
 };
 use std::alloc::Global;
@@ -135,7 +135,7 @@ fn options_of(is_lenient: bool) -> PageOptions {
         } else {
             PageFrame::Open
         },
-        lenient: is_lenient,
+        leniency: Leniency::of_paths(is_lenient),
         max_turns: None,
         max_bytes: None,
     }

@@ -1,6 +1,6 @@
 //! The tests of the standard library: its filters, each called as a function of values; its tags and blocks, with
-//! templates in isolation over parents that hide their names, and templates of the tag library in both languages; and
-//! the tests of the shop. Each table is one text of lines, a row each.
+//! templates in isolation over parents that hide their names, with conditions by the same value, and templates of the tag
+//! library in both languages; and the tests of the shop. Each table is one text of lines, a row each.
 
 mod both_languages;
 mod byte_pages;
@@ -13,6 +13,7 @@ mod own_tag_rows;
 mod page_faults;
 mod parents;
 mod reflections;
+mod same_value_rows;
 mod shop_reviews;
 mod shop_rows;
 mod sites;

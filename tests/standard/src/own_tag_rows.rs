@@ -5,7 +5,7 @@ use liquid_beside::language_beside;
 use liquid_core::parser::{NoPlugin, PluginRegistry};
 use liquid_core::partials::InMemorySource;
 use liquid_core::{Error, TextSink, render_page_in};
-use liquid_cycle::Marks;
+use liquid_std::marks::Marks;
 use rows::{Line, holds, rows_hold};
 use std::alloc::Global;
 use std::test::Fail;

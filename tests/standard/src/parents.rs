@@ -2,7 +2,7 @@
 use liquid_core::Error;
 use liquid_core::model::{Object, Value, to_object};
 use liquid_core::runtime::{BuiltRuntime, Interrupt, Runtime, RuntimeBuilder, Seen};
-use liquid_cycle::Marks;
+use liquid_std::marks::Marks;
 use rows::{Line, Row};
 use std::alloc::Global;
 

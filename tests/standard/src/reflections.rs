@@ -149,7 +149,7 @@ fn is_filter<P: FilterReflection>(alloc: Global, filter: &P, line: &str) -> bool
 }
 
 #[test]
-fn filters_tell_about_themselves(rt: HostRuntime) -> Result<(), Fail> {
+fn filters_describe_themselves(rt: HostRuntime) -> Result<(), Fail> {
     let alloc = rt.alloc();
     let filters = filters(alloc, None)?;
     for (filter, line) in filters.plugins().zip(FILTERS.lines()) {
@@ -162,7 +162,7 @@ fn filters_tell_about_themselves(rt: HostRuntime) -> Result<(), Fail> {
 }
 
 #[test]
-fn tags_and_blocks_tell_about_themselves(rt: HostRuntime) -> Result<(), Fail> {
+fn tags_and_blocks_describe_themselves(rt: HostRuntime) -> Result<(), Fail> {
     let alloc = rt.alloc();
     let filters: PluginRegistry<NoPlugin> = PluginRegistry::new(alloc);
     let language = language(alloc, filters)?;

@@ -1,8 +1,8 @@
 //! What a review sees.
 use crate::sources::is_whole;
+use example_shop::pages::{Shop, write_review};
 use liquid_core::{Error, TextSink};
 use rows::holds;
-use shop::pages::{Shop, write_review};
 use std::alloc::Global;
 use std::test::Fail;
 

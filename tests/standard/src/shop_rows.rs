@@ -1,10 +1,10 @@
 //! Rows of the shop's language.
 use crate::sources::is_whole;
+use example_shop::languages::language;
 use liquid_core::model::{Object, Value};
 use liquid_core::partials::InMemorySource;
 use liquid_core::{Error, TextSink, render_page_in};
 use rows::{Line, holds, rows_hold};
-use shop::languages::language;
 use std::alloc::{AllocError, Global};
 use std::test::Fail;
 

@@ -4,10 +4,10 @@ use crate::tag_rows::globals_of;
 use liquid_core::parser::{Language, PluginRegistry};
 use liquid_core::partials::InMemorySource;
 use liquid_core::{Error, NoPlugin, Object, TextSink};
-use liquid_cycle::Marks;
 use liquid_pages::{
-    PageFrame, PageLimit, PageOptions, read_template, render_template, render_text,
+    Leniency, PageFrame, PageLimit, PageOptions, read_template, render_template, render_text,
 };
+use liquid_std::marks::Marks;
 use liquid_std::{StdBlocks, StdTags, language};
 use rows::{Line, rows_hold};
 use std::alloc::Global;
@@ -28,7 +28,7 @@ fn options(max_bytes: u64) -> PageOptions {
     PageOptions {
         frame: PageFrame::Open,
         decimals: false,
-        lenient: false,
+        leniency: Leniency::Strict,
         max_turns: None,
         max_bytes: Some(max_bytes),
     }

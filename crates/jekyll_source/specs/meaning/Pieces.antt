@@ -4,28 +4,11 @@ use Rattle.std.specs.Prelude.{drop}
 use Rattle.std.specs.List.{prefix_len}
 use Rattle.std.specs.Option.{option_map_or}
 use Rattle.std.specs.Str.{byte}
+use Rattle.jekyll_source.specs.meaning.Blank.{marked, written_in}
 use Rattle.jekyll_source.specs.meaning.Bodies.{split_body}
-use Rattle.jekyll_source.specs.meaning.Rewriting.{rewritten}
+use Rattle.jekyll_source.specs.meaning.Piece.{Piece, plain, value, tag, bytes_of}
 use Rattle.jekyll_source.specs.meaning.Splits.{Parts, after_opener, split_around, split_at}
 use Rattle.jekyll_source.specs.meaning.Tags.{named}
-
--- text; what is between `{{` and `}}`; what is between `{%` and `%}`, and the body after it if no tag is read there
-pub data Piece : Type 0 where
-  plain : List ℕ → Piece
-  value : List ℕ → Piece
-  tag : List ℕ → List ℕ → Piece
-
--- the bytes of a piece
-abbrev pub bytes_of : Piece → List ℕ
-bytes_of (plain text) = text
-bytes_of (value inner) = codes "{{" ++ (inner ++ codes "}}")
-bytes_of (tag inner body) = codes "{%" ++ (inner ++ (codes "%}" ++ body))
-
--- what is written for it
-abbrev pub written : Piece → List ℕ
-written (plain text) = text
-written (value inner) = codes "{{" ++ (inner ++ codes "}}")
-written (tag inner body) = codes "{%" ++ (rewritten inner ++ (codes "%}" ++ body))
 
 -- a piece, and the rest of the text
 abbrev pub Taken : Type 0
@@ -73,6 +56,6 @@ pieces text = pieces_in (length text) text
 abbrev pub joined : List Piece → List ℕ
 joined ps = flat_map bytes_of ps
 
--- the text with its tags in this engine's grammar
+-- the text with its tags in this engine's grammar, and without the white space of blocks that write nothing
 abbrev pub jekyll_text : List ℕ → List ℕ
-jekyll_text text = flat_map written (pieces text)
+jekyll_text text = written_in [] (marked (pieces text))

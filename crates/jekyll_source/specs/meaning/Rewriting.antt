@@ -17,7 +17,7 @@ abbrev pub takes_name : List ℕ → Bool
 takes_name tag =
     ((is_inclusion tag || bytes_eq tag (codes "link")) || bytes_eq tag (codes "post_url")) || bytes_eq tag (codes "highlight")
 
--- whether a name is there that is no text literal and no list of parts
+-- whether a name is there that is neither a text literal nor a list of parts
 abbrev pub begins_name : List ℕ → Bool
 begins_name [] = false
 begins_name (b ∷ bs) = not (is_quote b || b == byte "<")

@@ -13,7 +13,7 @@ Parts = List ℕ × List ℕ
 abbrev pub is_white : ℕ → Bool
 is_white b = b == byte " " || (not (nat_lt b 9) && nat_lt b 14)
 
--- the white space in a line that is no end of it
+-- the white space in a line that doesn't end it
 abbrev pub is_blank : ℕ → Bool
 is_blank b = b == byte " " || b == byte "\t"
 

@@ -10,7 +10,8 @@ use Rattle.jekyll_source.specs.declared.pieces.Piece.TheVariants.{Plain, Value, 
 use Rattle.jekyll_source.specs.declared.splits.ByteSet.{ByteSet}
 use Rattle.jekyll_source.specs.declared.splits.ByteSet.TheVariants.{White, Blank, Word}
 use Rattle.jekyll_source.specs.declared.tags.TagParts.{TagParts}
-use Rattle.jekyll_source.specs.meaning.Pieces.{Piece, plain, value, tag}
+use Rattle.jekyll_source.specs.meaning.Blank.{Marked}
+use Rattle.jekyll_source.specs.meaning.Piece.{Piece, plain, value, tag}
 use Rattle.jekyll_source.specs.meaning.Splits.{is_blank, is_white, is_word}
 use Rattle.jekyll_source.specs.meaning.Tags.{Tag}
 
@@ -39,6 +40,9 @@ abbrev pub piece_view : code.Piece → Piece
 piece_view (Plain text) = plain text.now
 piece_view (Value inner) = value inner.now
 piece_view (TagPiece inner body) = tag inner.now body.now
+
+abbrev pub marked_view : code.Piece × Bool → Marked
+marked_view m = (piece_view m.0, m.1)
 
 abbrev pub shown : Option (Bor (List ℕ)) → Option (List ℕ)
 shown text = option_map (λ t. t.now) text

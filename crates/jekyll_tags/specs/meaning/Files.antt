@@ -29,7 +29,7 @@ use Rattle.std.specs.Str.{byte}
 use Rattle.liquid_value.specs.meaning.Parts.{as_array}
 use Rattle.liquid_value.specs.meaning.Tree.{Items, Tree}
 use Rattle.liquid_tags.specs.meaning.Series.{trees}
-use Rattle.jekyll_urls.specs.meaning.Cuts.{cut_last}
+use Rattle.liquid_jekyll.specs.meaning.url.Cuts.{cut_last}
 use Rattle.jekyll_tags.specs.declared.files.Wanted.{Wanted}
 use Rattle.jekyll_tags.specs.declared.files.Wanted.TheVariants.{File, Post}
 use Rattle.jekyll_tags.specs.meaning.Seen.{member, text_member}

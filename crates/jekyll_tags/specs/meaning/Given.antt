@@ -9,7 +9,7 @@ use Rattle.liquid_plugins.specs.meaning.Chain.{ChainShape}
 use Rattle.liquid_plugins.specs.meaning.Expression.{ExpressionShape}
 use Rattle.liquid_tags.specs.meaning.Asked.{next_as}
 use Rattle.liquid_tags.specs.meaning.Partials.{Pair}
-use Rattle.liquid_includes.specs.meaning.CallsGiven.{missing}
+use Rattle.liquid_std.specs.meaning.inclusion.CallsGiven.{missing}
 use Rattle.jekyll_tags.specs.declared.inclusion.JekyllInclusionShape.{JekyllInclusionShape}
 use Rattle.jekyll_tags.specs.declared.plugin.JekyllTags.{JekyllTags}
 use Rattle.jekyll_tags.specs.declared.plugin.JekyllTags.TheVariants.{Include, IncludeCached, IncludeRelative, Seo}

@@ -6,7 +6,7 @@ use Rattle.liquid_plugins.specs.meaning.Turning.{answers, begins_with}
 use Rattle.liquid_plugins.specs.meaning.Turns.{TurnShape, text_turn, capture_turn, NodeMeaning}
 use Rattle.liquid_strings.specs.meaning.Escape.{escaped}
 use Rattle.liquid_strings.specs.meaning.Replace.{replaced}
-use Rattle.jekyll_texts.specs.meaning.Spaces.{stripped}
+use Rattle.liquid_jekyll.specs.meaning.text.Spaces.{stripped}
 use Rattle.jekyll_tags.specs.declared.highlight.Highlight.{Highlight}
 use Rattle.jekyll_tags.specs.declared.highlight.HighlightShape.{HighlightShape}
 use Rattle.jekyll_tags.specs.meaning.Seen.{text_seen}

@@ -6,7 +6,7 @@ use Rattle.liquid_value.specs.meaning.Render.{render}
 use Rattle.liquid_parser.specs.meaning.Handed.{Token, Tokens, expect_identifier, expect_literal, expect_value, or_unexpected}
 use Rattle.liquid_strings.specs.meaning.Cases.{lowercased}
 use Rattle.liquid_tags.specs.meaning.Asked.{next_as}
-use Rattle.liquid_includes.specs.meaning.CallsGiven.{missing}
+use Rattle.liquid_std.specs.meaning.inclusion.CallsGiven.{missing}
 use Rattle.jekyll_tags.specs.declared.highlight.HighlightShape.{HighlightShape}
 
 -- the text of a literal, in lower case, and the tokens after it

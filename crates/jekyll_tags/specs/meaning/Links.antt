@@ -10,8 +10,8 @@ use Rattle.liquid_plugins.specs.meaning.Chain.{FilterMeaning}
 use Rattle.liquid_plugins.specs.meaning.ExpressionOf.{chain_of}
 use Rattle.liquid_plugins.specs.meaning.Turning.{answers, begins_with, captures_nothing}
 use Rattle.liquid_plugins.specs.meaning.Turns.{TurnShape, text_turn, NodeMeaning}
-use Rattle.jekyll_texts.specs.meaning.Escape.{xml_escaped}
-use Rattle.jekyll_urls.specs.meaning.Sites.{absolute_url, relative_url}
+use Rattle.liquid_jekyll.specs.meaning.text.Escape.{xml_escaped}
+use Rattle.liquid_jekyll.specs.meaning.url.Sites.{absolute_url, relative_url}
 use Rattle.jekyll_tags.specs.declared.links.JekyllLink.{JekyllLink}
 use Rattle.jekyll_tags.specs.declared.links.JekyllLinkShape.{JekyllLinkShape}
 use Rattle.jekyll_tags.specs.declared.links.JekyllLinks.{JekyllLinks}

@@ -1,12 +1,14 @@
 -- The standard tags and blocks with a host's own.
 use Rattle.std.specs.Prelude.{ℕ, List, [], ◌∷◌, map}
 use Rattle.std.specs.FinMap.{empty}
-use Rattle.beside.specs.declared.one_of.Beside.{Beside}
-use Rattle.beside.specs.declared.one_of.Beside.TheVariants.{Library, Own}
+use Rattle.liquid_extend.specs.declared.beside.one_of.Beside.{Beside}
+use Rattle.liquid_extend.specs.declared.beside.one_of.Beside.TheVariants.{Library, Own}
 use Rattle.liquid_runtime.specs.meaning.Maps.{NameMap}
 use Rattle.liquid_parser.specs.meaning.Lang.{BlockNames}
 use Rattle.liquid_tags.specs.declared.tag_plugins.Tags.TheVariants.{Assign, Increment, Break, Continue, Include, Render}
 use Rattle.liquid_tags.specs.meaning.Languages.{under_names}
+use Rattle.liquid_std.specs.declared.conditions.equality.Equality.TheVariants.{Loose}
+use Rattle.liquid_std.specs.declared.iteration.scalars.OverScalar.TheVariants.{Refused}
 use Rattle.liquid_std.specs.declared.block_plugins.StdBlocks.{StdBlocks}
 use Rattle.liquid_std.specs.declared.block_plugins.StdBlocks.TheVariants as block
 use Rattle.liquid_std.specs.declared.tag_plugins.StdTags.{StdTags}
@@ -30,7 +32,8 @@ standard_tags =
 
 abbrev pub standard_blocks : List StdBlocks
 standard_blocks =
-    block.If ∷ block.Unless ∷ block.Case ∷ block.For ∷ block.Tablerow ∷ block.Capture ∷ block.Ifchanged ∷ block.Comment ∷ block.Raw ∷ []
+    block.If Loose ∷ block.Unless Loose ∷ block.Case Loose ∷ block.For Refused ∷ block.Tablerow ∷ block.Capture ∷ block.Ifchanged
+    ∷ block.Comment ∷ block.Raw ∷ []
 
 -- the standard tags and these, each under its name; of two with one name the later is kept
 abbrev pub tags_beside : {O : Type 0} → (O → List ℕ) → List O → NameMap (Beside StdTags O)

@@ -1,5 +1,5 @@
 -- The languages that the options of a page choose from.
-use Rattle.std.specs.Prelude.{ℕ, Bool, true, false, List, Option, Result}
+use Rattle.std.specs.Prelude.{ℕ, List, Option, Result, map}
 use Rattle.std.specs.FinMap.{empty}
 use Rattle.liquid_dates.specs.declared.date_time.DateTime.{DateTime}
 use Rattle.liquid_error.specs.meaning.Refusal.{Refusal}
@@ -12,8 +12,8 @@ use Rattle.liquid_tags.specs.declared.blocks.BlockShape.{BlockShape}
 use Rattle.liquid_tags.specs.declared.block_plugins.PlanShape.{PlanShape}
 use Rattle.liquid_tags.specs.meaning.Languages.{tags_and_blocks}
 use Rattle.liquid_tags.specs.meaning.Library.{library}
-use Rattle.liquid_cycle.specs.meaning.Held.{marks_alone}
-use Rattle.liquid_cycle.specs.meaning.Marks.{no_marks}
+use Rattle.liquid_std.specs.meaning.marks.Held.{marks_alone}
+use Rattle.liquid_std.specs.meaning.marks.Marks.{no_marks}
 use Rattle.liquid_std.specs.declared.tags.StdTagShape.{StdTagShape}
 use Rattle.liquid_std.specs.declared.blocks.StdBlockShape.{StdBlockShape}
 use Rattle.liquid_std.specs.declared.block_plugins.StdPlanShape.{StdPlanShape}
@@ -25,8 +25,13 @@ use Rattle.liquid_filters.specs.declared.plugin.FilterPlugin.{FilterPlugin}
 use Rattle.liquid_filters.specs.meaning.Calls.{call_made, calls}
 use Rattle.liquid_filters.specs.meaning.Registered.{standard_filters}
 use Rattle.liquid_filters.specs.meaning.Standard.{std_sense}
+use Rattle.jekyll_language.specs.meaning.Rendered.{jekyll}
+use Rattle.jekyll_language.specs.meaning.Site as site
 use Rattle.liquid_pages.specs.declared.options.PageOptions.{PageOptions}
 use Rattle.liquid_pages.specs.meaning.Shown.{ComesTo, NameAndText, Page}
+use Rattle.liquid_c.specs.declared.languages.Dialect.{Dialect}
+use Rattle.liquid_c.specs.declared.languages.Dialect.TheVariants.{Plain, Standard, Jekyll}
+use Rattle.liquid_c.specs.meaning.Jekyll.{partial_as_read, text_as_read}
 
 -- what arguments make of a filter, and what a filter does
 abbrev pub filter_made : FilterPlugin StdKind → Arguments → Result (CallShape StdKind) Refusal
@@ -43,8 +48,11 @@ plain_language = tags_and_blocks (registry_of filter_made empty)
 abbrev pub standard_language : Option DateTime → Lang (CallShape StdKind) (StdTagShape (CallShape StdKind)) StdPlanShape StdBlockShape
 standard_language now = standard_tags_and_blocks (registry_of filter_made (standard_filters now))
 
--- the page of these bytes in one of the two languages. The standard one has this moment, and keeps marks, of which there
--- are none at first
-abbrev pub ComesToIn : Option DateTime → Bool → PageOptions → List ℕ → List ℕ → List NameAndText → Page → Type 0
-ComesToIn now false = ComesTo (library (tt {0}) filter_calls) plain_language
-ComesToIn now true = ComesTo (standard marks_alone no_marks filter_calls) (standard_language now)
+-- the page of these bytes in one of the languages. The standard one and Jekyll's have this moment, and keep marks, of which
+-- there are none at first. In Jekyll's the texts are as its authors write them
+abbrev pub ComesToIn : Option DateTime → Dialect → PageOptions → List ℕ → List ℕ → List NameAndText → Page → Type 0
+ComesToIn now Plain = ComesTo (library (tt {0}) filter_calls) plain_language
+ComesToIn now Standard = ComesTo (standard marks_alone no_marks filter_calls) (standard_language now)
+ComesToIn now Jekyll = λ options text globals partials.
+    ComesTo (jekyll marks_alone no_marks site.filter_calls) (site.site_language now) options (text_as_read text) globals
+    (map partial_as_read partials)

@@ -32,7 +32,7 @@ use Rattle.liquid_c.specs.declared.page.Outcome.{Outcome}
 use Rattle.liquid_c.specs.declared.page.Page.{Page as Asked}
 use Rattle.liquid_c.specs.meaning.Languages.{ComesToIn}
 use Rattle.liquid_c.specs.meaning.Moments.{HasMoment, LacksMoment}
-use Rattle.liquid_c.specs.meaning.Options.{has_standard, page_options}
+use Rattle.liquid_c.specs.meaning.Options.{dialect_of, page_options}
 
 -- the kinds, by their numbers in the header
 abbrev pub kind_of : Fault → ℕ
@@ -124,11 +124,11 @@ Momentless old new o = ((o ≡ without_moment) ⊎ (o ≡ outcome_alone 6)) × (
 -- what a call leaves of the page that it was asked for, over these globals
 abbrev pub LeavesOver : Asked → List ℕ → List ℕ → List ℕ → Outcome → Type 0
 LeavesOver asked globals old new o =
-    (asked.options < 32 → (now : Option DateTime) → HasMoment asked now → (page : Page)
-    → ComesToIn now (has_standard asked.options) (page_options asked) asked.text.now globals (map bytes_of_partial asked.partials.now) page
+    (asked.options < 64 → (now : Option DateTime) → HasMoment asked now → (page : Page)
+    → ComesToIn now (dialect_of asked.options) (page_options asked) asked.text.now globals (map bytes_of_partial asked.partials.now) page
     → Leaves page old new o)
-    × (asked.options < 32 → LacksMoment asked → Momentless old new o)
-    × (32 ≤ asked.options → Unasked old new o)
+    × (asked.options < 64 → LacksMoment asked → Momentless old new o)
+    × (64 ≤ asked.options → Unasked old new o)
 
 -- the same over the page's own globals
 abbrev pub LeavesAsked : Asked → List ℕ → List ℕ → Outcome → Type 0

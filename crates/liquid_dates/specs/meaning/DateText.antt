@@ -105,8 +105,8 @@ abbrev pub clock : CivilTime → Texts
 clock t = joined (two_below 24 t.hour) colon (joined (two_below 60 t.minute) colon (two_below 60 t.second))
 
 -- the forms of a date
-unfoldable pub dashed_date : Form CivilDate
-dashed_date text d = dashed d text
+unfoldable pub iso_date : Form CivilDate
+iso_date text d = dashed d text
 
 unfoldable pub long_date : Form CivilDate
 long_date text d = day_month month_name d text
@@ -116,7 +116,7 @@ short_date text d = day_month short_month_name d text
 
 -- `DD Month YYYY`, `DD Mon YYYY` or `YYYY-MM-DD`
 abbrev pub date_forms : Form CivilDate
-date_forms = first long_date (first short_date dashed_date)
+date_forms = first long_date (first short_date iso_date)
 
 -- the date of a text at a moment: for `today` the date of the moment, otherwise the date of the first form that fits
 abbrev pub IsDateText : List ℕ → DateTime → CivilDate → Type 0
@@ -143,8 +143,8 @@ abbrev pub at_offset : Texts → DateTime → Texts
 at_offset local dt = joined local space (offset_texts (offset_seconds dt))
 
 -- `YYYY-MM-DD HH:MM:SS off`
-unfoldable pub dashed_date_time : Form DateTime
-dashed_date_time text dt =
+unfoldable pub iso_date_time : Form DateTime
+iso_date_time text dt =
     at_offset (timed (dashed (civil_date dt)) dt) dt text × (nanosecond dt ≡ 0)
 
 -- `YYYY-MM-DD HH:MM:SS.fraction off`
@@ -163,8 +163,8 @@ short_date_time text dt =
     at_offset (timed (day_month short_month_name (civil_date dt)) dt) dt text × (nanosecond dt ≡ 0)
 
 -- `MM/DD/YYYY HH:MM:SS off`
-unfoldable pub slashed_date_time : Form DateTime
-slashed_date_time text dt =
+unfoldable pub us_date_time : Form DateTime
+us_date_time text dt =
     at_offset (timed (slashed (civil_date dt)) dt) dt text × (nanosecond dt ≡ 0)
 
 -- `Mon D HH:MM:SS YYYY`
@@ -180,10 +180,10 @@ weekday_date_time text dt =
 
 -- the forms that begin with a day, a month or a weekday
 abbrev pub day_forms : Form DateTime
-day_forms = first long_date_time (first short_date_time (first slashed_date_time weekday_date_time))
+day_forms = first long_date_time (first short_date_time (first us_date_time weekday_date_time))
 
 abbrev pub date_time_forms : Form DateTime
-date_time_forms = first dashed_date_time (first fraction_date_time day_forms)
+date_time_forms = first iso_date_time (first fraction_date_time day_forms)
 
 -- a sign, `0` or `1`, and three digits
 abbrev pub is_offset_end : List ℕ → Bool

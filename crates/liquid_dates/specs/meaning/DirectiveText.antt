@@ -181,19 +181,19 @@ composite_of case ClockOf12 dt = clock_of_12 dt
 composite_of case DateAndTime dt = date_and_time case dt
 
 -- the number of characters that a composite counts as
-abbrev pub counted : Composite → ℕ
-counted DashedDate = 10
-counted NamedDate = 11
-counted HourMinute = 5
-counted SlashedDate = 8
-counted Clock = 8
-counted ClockOf12 = 11
-counted DateAndTime = 24
+abbrev pub composite_length : Composite → ℕ
+composite_length DashedDate = 10
+composite_length NamedDate = 11
+composite_length HourMinute = 5
+composite_length SlashedDate = 8
+composite_length Clock = 8
+composite_length ClockOf12 = 11
+composite_length DateAndTime = 24
 
 -- a composite, following its flags and its width; the flag `-` has no effect
 unfoldable pub composite_text : Flags → Option ℕ → Composite → DateTime → List ℕ
 composite_text flags width c dt =
-    filled_text (text_filler flags.filling) (unwrap_or width 0) (counted c) (composite_of flags.case c dt)
+    filled_text (text_filler flags.filling) (unwrap_or width 0) (composite_length c) (composite_of flags.case c dt)
 
 -- the first of the nine digits of the fraction, and zeros past nine
 unfoldable pub fraction_of : ℕ → ℕ → List ℕ
@@ -211,13 +211,13 @@ abbrev pub hours_width : Option ℕ → Offset → ℕ
 hours_width width kind = 2 + (unwrap_or width 0 - offset_length kind)
 
 -- the sign and the hours: spaces before the sign, or zeros after it
-unfoldable pub signed_hours : Filling → ℕ → ℤ → List ℕ
-signed_hours Spaces width seconds =
+unfoldable pub write_signed_hours : Filling → ℕ → ℤ → List ℕ
+write_signed_hours Spaces width seconds =
     replicate (width - (1 + length (decimal (unsigned_abs seconds / 3600)))) space
     ++ (sign_of seconds ∷ decimal (unsigned_abs seconds / 3600))
-signed_hours Unset width seconds =
+write_signed_hours Unset width seconds =
     sign_of seconds ∷ filled_number ZerosAfterSign width (pos (unsigned_abs seconds / 3600))
-signed_hours Zeros width seconds =
+write_signed_hours Zeros width seconds =
     sign_of seconds ∷ filled_number ZerosAfterSign width (pos (unsigned_abs seconds / 3600))
 
 -- the minutes and seconds after them
@@ -230,7 +230,7 @@ offset_minutes Seconds seconds =
 -- the offset, following its flags and its width; the flag `-` has no effect
 unfoldable pub offset_of : Flags → Option ℕ → Offset → DateTime → List ℕ
 offset_of flags width kind dt =
-    signed_hours flags.filling (hours_width width kind) (offset_seconds dt)
+    write_signed_hours flags.filling (hours_width width kind) (offset_seconds dt)
     ++ offset_minutes kind (offset_seconds dt)
 
 -- what a directive prints

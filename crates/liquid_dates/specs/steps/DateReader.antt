@@ -58,30 +58,30 @@ after_byte byte [] = None
 after_byte byte (c ∷ cs) = if c == byte then Some cs else None
 
 -- two digits of a number below a limit
-unfoldable pub two_at : ℕ → List ℕ → Read ℕ
-two_at limit (a ∷ b ∷ rest) =
+unfoldable pub read_two_digits : ℕ → List ℕ → Read ℕ
+read_two_digits limit (a ∷ b ∷ rest) =
     if is_digit a && (is_digit b && nat_lt (10 * (a - byte "0") + (b - byte "0")) limit) then Some
     (10 * (a - byte "0") + (b - byte "0"), rest) else None
-two_at limit _ = None
+read_two_digits limit _ = None
 
 infixl 10 ◌>>=◌
 abbrev pub ◌>>=◌ : {A B : Type 0} → Option A → (A → Option B) → Option B
 o >>= f = option_and_then f o
 
 -- four digits
-unfoldable pub four_at : List ℕ → Read ℕ
-four_at text = do
-  century ← two_at 100 text
-  year ← two_at 100 century.1
+unfoldable pub read_four_digits : List ℕ → Read ℕ
+read_four_digits text = do
+  century ← read_two_digits 100 text
+  year ← read_two_digits 100 century.1
   Some (100 * century.0 + year.0, year.1)
 
 -- a year, which may follow a `-`
 abbrev pub year_after : Option (List ℕ) → List ℕ → Read ℤ
-year_after (Some following) text = option_map (λ y. (neg_ℤ (pos y.0), y.1)) (four_at following)
-year_after None text = option_map (λ y. (pos y.0, y.1)) (four_at text)
+year_after (Some following) text = option_map (λ y. (neg_ℤ (pos y.0), y.1)) (read_four_digits following)
+year_after None text = option_map (λ y. (pos y.0, y.1)) (read_four_digits text)
 
-unfoldable pub year_at : List ℕ → Read ℤ
-year_at text = year_after (after_byte dash text) text
+unfoldable pub read_year : List ℕ → Read ℤ
+read_year text = year_after (after_byte dash text) text
 
 -- a reader, a byte after it, and a reader after that
 abbrev pub joined_at : {A B : Type 0} → (List ℕ → Read A) → ℕ → (List ℕ → Read B) → List ℕ → Read (A × B)
@@ -103,43 +103,43 @@ find_name name front zero m = None
 find_name name front (suc n) m = if bytes_eq (name m) front then Some m else find_name name front n (m + 1)
 
 -- three letters that name a number
-unfoldable pub short_name_at : (ℕ → List ℕ) → ℕ → ℕ → List ℕ → Read ℕ
-short_name_at name count m (a ∷ b ∷ c ∷ rest) =
+unfoldable pub read_short_name : (ℕ → List ℕ) → ℕ → ℕ → List ℕ → Read ℕ
+read_short_name name count m (a ∷ b ∷ c ∷ rest) =
     option_map (λ k. (k, rest)) (find_name name (a ∷ b ∷ c ∷ []) count m)
-short_name_at name count m _ = None
+read_short_name name count m _ = None
 
 -- the rest after a text at the front
 unfoldable pub following_text : List ℕ → List ℕ → Option (List ℕ)
 following_text text all = if bytes_eq (take (length text) all) text then Some (drop (length text) all) else None
 
 -- the name of a month: its first three letters, then the others
-unfoldable pub month_at : List ℕ → Read ℕ
-month_at text = do
-  month ← short_name_at short_month_name 12 1 text
+unfoldable pub read_month : List ℕ → Read ℕ
+read_month text = do
+  month ← read_short_name short_month_name 12 1 text
   rest ← following_text (drop 3 (month_name month.0)) month.1
   Some (month.0, rest)
 
-abbrev pub short_month_at : List ℕ → Read ℕ
-short_month_at = short_name_at short_month_name 12 1
+abbrev pub read_short_month : List ℕ → Read ℕ
+read_short_month = read_short_name short_month_name 12 1
 
-abbrev pub weekday_at : List ℕ → Read ℕ
-weekday_at = short_name_at short_weekday_name 7 0
+abbrev pub read_weekday : List ℕ → Read ℕ
+read_weekday = read_short_name short_weekday_name 7 0
 
 -- the forms of a date
-unfoldable pub dashed_at : List ℕ → Read (ℤ × (ℕ × ℕ))
-dashed_at = joined_at year_at dash (joined_at (two_at 100) dash (two_at 100))
+unfoldable pub read_iso_date : List ℕ → Read (ℤ × (ℕ × ℕ))
+read_iso_date = joined_at read_year dash (joined_at (read_two_digits 100) dash (read_two_digits 100))
 
-unfoldable pub long_at : List ℕ → Read (ℕ × (ℕ × ℤ))
-long_at = joined_at (two_at 100) space (joined_at month_at space year_at)
+unfoldable pub read_long_date : List ℕ → Read (ℕ × (ℕ × ℤ))
+read_long_date = joined_at (read_two_digits 100) space (joined_at read_month space read_year)
 
-unfoldable pub short_at : List ℕ → Read (ℕ × (ℕ × ℤ))
-short_at = joined_at (two_at 100) space (joined_at short_month_at space year_at)
+unfoldable pub read_short_date : List ℕ → Read (ℕ × (ℕ × ℤ))
+read_short_date = joined_at (read_two_digits 100) space (joined_at read_short_month space read_year)
 
-unfoldable pub slashed_at : List ℕ → Read (ℕ × (ℕ × ℤ))
-slashed_at = joined_at (two_at 100) slash (joined_at (two_at 100) slash year_at)
+unfoldable pub read_us_date : List ℕ → Read (ℕ × (ℕ × ℤ))
+read_us_date = joined_at (read_two_digits 100) slash (joined_at (read_two_digits 100) slash read_year)
 
-unfoldable pub clock_at : List ℕ → Read (ℕ × (ℕ × ℕ))
-clock_at = joined_at (two_at 24) colon (joined_at (two_at 60) colon (two_at 60))
+unfoldable pub read_clock : List ℕ → Read (ℕ × (ℕ × ℕ))
+read_clock = joined_at (read_two_digits 24) colon (joined_at (read_two_digits 60) colon (read_two_digits 60))
 
 -- the parts of a date, in the order in which a form writes them
 abbrev pub by_year : Ymd × List ℕ → (ℤ × (ℕ × ℕ)) × List ℕ
@@ -158,31 +158,31 @@ IsWholeDate (Some (ymd, rest)) d =
     (rest.now ≡ []) × (ymd.year ≡ d.year) × (ymd.month ≡ d.month) × (ymd.day ≡ d.day)
 
 -- an offset after its sign, in seconds
-unfoldable pub hours_at : List ℕ → Read ℕ
-hours_at text = do
-  hours ← two_at 100 text
-  minutes ← two_at 60 hours.1
+unfoldable pub read_hours : List ℕ → Read ℕ
+read_hours text = do
+  hours ← read_two_digits 100 text
+  minutes ← read_two_digits 60 hours.1
   Some (hours.0 * 3600 + minutes.0 * 60, minutes.1)
 
 abbrev pub sign_after : Option (List ℕ) → Option (List ℕ) → Read ℤ
-sign_after (Some rest) minus = option_map (λ z. (pos z.0, z.1)) (hours_at rest)
-sign_after None (Some rest) = option_map (λ z. (neg_ℤ (pos z.0), z.1)) (hours_at rest)
+sign_after (Some rest) minus = option_map (λ z. (pos z.0, z.1)) (read_hours rest)
+sign_after None (Some rest) = option_map (λ z. (neg_ℤ (pos z.0), z.1)) (read_hours rest)
 sign_after None None = None
 
-unfoldable pub offset_at : List ℕ → Read ℤ
-offset_at text = sign_after (after_byte plus text) (after_byte dash text)
+unfoldable pub read_offset : List ℕ → Read ℤ
+read_offset text = sign_after (after_byte plus text) (after_byte dash text)
 
 -- one digit, or two
-abbrev pub one_digit_at : List ℕ → Read ℕ
-one_digit_at [] = None
-one_digit_at (c ∷ cs) = if is_digit c then Some (c - byte "0", cs) else None
+abbrev pub read_one_digit : List ℕ → Read ℕ
+read_one_digit [] = None
+read_one_digit (c ∷ cs) = if is_digit c then Some (c - byte "0", cs) else None
 
 abbrev pub or_one_digit : Read ℕ → List ℕ → Read ℕ
 or_one_digit (Some x) text = Some x
-or_one_digit None text = one_digit_at text
+or_one_digit None text = read_one_digit text
 
-unfoldable pub short_day_at : List ℕ → Read ℕ
-short_day_at text = or_one_digit (two_at 100 text) text
+unfoldable pub read_short_day : List ℕ → Read ℕ
+read_short_day text = or_one_digit (read_two_digits 100 text) text
 
 -- the number of digits, up to ten, the number that they write, and the rest after them
 abbrev pub digits_from : ℕ → ℕ → List ℕ → (ℕ × ℕ) × List ℕ
@@ -195,29 +195,29 @@ abbrev pub fraction_of_digits : ℕ → ℕ → List ℕ → Read ℕ
 fraction_of_digits count value rest =
     if nat_lt 0 count && nat_lt count 10 then Some (value * 10 ^ (9 - count), rest) else None
 
-unfoldable pub fraction_at : List ℕ → Read ℕ
-fraction_at text =
+unfoldable pub read_fraction : List ℕ → Read ℕ
+read_fraction text =
     fraction_of_digits (digits_from 0 0 text).0.0 (digits_from 0 0 text).0.1 (digits_from 0 0 text).1
 
 -- the forms of a date with a time
-unfoldable pub timed_dashed_at : List ℕ → Read ((ℤ × (ℕ × ℕ)) × (ℕ × (ℕ × ℕ)))
-timed_dashed_at = joined_at dashed_at space clock_at
+unfoldable pub read_iso_stamp : List ℕ → Read ((ℤ × (ℕ × ℕ)) × (ℕ × (ℕ × ℕ)))
+read_iso_stamp = joined_at read_iso_date space read_clock
 
-unfoldable pub timed_fraction_at : List ℕ → Read ((ℤ × (ℕ × ℕ)) × ((ℕ × (ℕ × ℕ)) × ℕ))
-timed_fraction_at = joined_at dashed_at space (joined_at clock_at dot fraction_at)
+unfoldable pub read_fraction_stamp : List ℕ → Read ((ℤ × (ℕ × ℕ)) × ((ℕ × (ℕ × ℕ)) × ℕ))
+read_fraction_stamp = joined_at read_iso_date space (joined_at read_clock dot read_fraction)
 
-unfoldable pub timed_long_at : List ℕ → Read ((ℕ × (ℕ × ℤ)) × (ℕ × (ℕ × ℕ)))
-timed_long_at = joined_at long_at space clock_at
+unfoldable pub read_long_stamp : List ℕ → Read ((ℕ × (ℕ × ℤ)) × (ℕ × (ℕ × ℕ)))
+read_long_stamp = joined_at read_long_date space read_clock
 
-unfoldable pub timed_short_at : List ℕ → Read ((ℕ × (ℕ × ℤ)) × (ℕ × (ℕ × ℕ)))
-timed_short_at = joined_at short_at space clock_at
+unfoldable pub read_short_stamp : List ℕ → Read ((ℕ × (ℕ × ℤ)) × (ℕ × (ℕ × ℕ)))
+read_short_stamp = joined_at read_short_date space read_clock
 
-unfoldable pub timed_slashed_at : List ℕ → Read ((ℕ × (ℕ × ℤ)) × (ℕ × (ℕ × ℕ)))
-timed_slashed_at = joined_at slashed_at space clock_at
+unfoldable pub read_us_stamp : List ℕ → Read ((ℕ × (ℕ × ℤ)) × (ℕ × (ℕ × ℕ)))
+read_us_stamp = joined_at read_us_date space read_clock
 
-unfoldable pub timed_weekday_at : List ℕ → Read (ℕ × (ℕ × (ℕ × ((ℕ × (ℕ × ℕ)) × ℤ))))
-timed_weekday_at =
-    joined_at weekday_at space (joined_at short_month_at space (joined_at short_day_at space (joined_at clock_at space year_at)))
+unfoldable pub read_weekday_stamp : List ℕ → Read (ℕ × (ℕ × (ℕ × ((ℕ × (ℕ × ℕ)) × ℤ))))
+read_weekday_stamp =
+    joined_at read_weekday space (joined_at read_short_month space (joined_at read_short_day space (joined_at read_clock space read_year)))
 
 -- the clock as a form writes it
 abbrev pub by_clock : Clock × List ℕ → (ℕ × (ℕ × ℕ)) × List ℕ
@@ -245,7 +245,7 @@ stamp_by_weekday p =
 
 -- an offset after a space
 abbrev pub space_offset : List ℕ → Read ℤ
-space_offset text = option_and_then offset_at (after_byte space text)
+space_offset text = option_and_then read_offset (after_byte space text)
 
 -- the offset of what is left after a date with a time: the one given there, or 0 if nothing is left
 abbrev pub offset_end : Bool → List ℕ → Option ℤ

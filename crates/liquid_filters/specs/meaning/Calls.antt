@@ -39,7 +39,7 @@ use Rattle.liquid_plugins.specs.meaning.Chain.{FilterMeaning}
 use Rattle.liquid_plugins.specs.meaning.Evaluation.{evaluate}
 use Rattle.liquid_plugins.specs.meaning.Expression.{ExpressionShape}
 use Rattle.liquid_plugins.specs.meaning.ExpressionOf.{expression_of}
-use Rattle.filter_values.specs.meaning.Errors.{unexpected_arguments}
+use Rattle.liquid_filters.specs.meaning.value.Errors.{unexpected_arguments}
 use Rattle.liquid_filters.specs.declared.call.CallShape.{CallShape}
 use Rattle.liquid_filters.specs.declared.call.FilterCall.{FilterCall}
 use Rattle.liquid_filters.specs.meaning.Given.{Given}

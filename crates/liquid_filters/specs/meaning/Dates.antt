@@ -14,7 +14,7 @@ use Rattle.liquid_value.specs.meaning.Tree.{Tree, scalar}
 use Rattle.filter_dates.specs.meaning.Errors.{pattern_error}
 use Rattle.filter_dates.specs.meaning.Moments.{IsMomentOf}
 use Rattle.filter_dates.proofs.MomentLemmas.{moment_of}
-use Rattle.filter_values.specs.meaning.Errors.{unexpected_arguments}
+use Rattle.liquid_filters.specs.meaning.value.Errors.{unexpected_arguments}
 
 -- what a date time prints by a pattern: the result of the one reading that the pattern has
 abbrev pub formatted : DateTime → List ℕ → Result (List ℕ) DateFormatError

@@ -2,23 +2,23 @@
 use Rattle.std.specs.Prelude.{ℕ, List, [], ◌∷◌, Bool, true, false, codes, Result, Ok}
 use Rattle.liquid_error.specs.meaning.Refusal.{Refusal}
 use Rattle.liquid_value.specs.meaning.Tree.{Tree}
-use Rattle.filter_strings.specs.meaning.Cutting as text_cutting
-use Rattle.filter_strings.specs.meaning.Encoding as text_encoding
-use Rattle.filter_strings.specs.meaning.Ends as text_ends
-use Rattle.filter_strings.specs.meaning.Html as text_html
-use Rattle.filter_strings.specs.meaning.Joints as text_joints
-use Rattle.filter_strings.specs.meaning.Letters as text_letters
-use Rattle.filter_strings.specs.meaning.Lines as text_lines
-use Rattle.filter_strings.specs.meaning.Replacing as text_replacing
-use Rattle.filter_strings.specs.meaning.Splitting as text_splitting
-use Rattle.filter_lists.specs.meaning.Choices as choice
-use Rattle.filter_lists.specs.meaning.Lists as listed
-use Rattle.filter_sorting.specs.meaning.Numbers as by_number
-use Rattle.filter_sorting.specs.meaning.Order as order
-use Rattle.filter_lists.specs.meaning.Searches as searching
-use Rattle.filter_lists.specs.meaning.Sums as sums
-use Rattle.filter_numbers.specs.meaning.Filters as number
-use Rattle.filter_numbers.specs.meaning.Units as units
+use Rattle.liquid_filters.specs.meaning.string.Truncation as text_cutting
+use Rattle.liquid_filters.specs.meaning.string.Encoding as text_encoding
+use Rattle.liquid_filters.specs.meaning.string.Stripping as text_ends
+use Rattle.liquid_filters.specs.meaning.string.Html as text_html
+use Rattle.liquid_filters.specs.meaning.string.Appending as text_joints
+use Rattle.liquid_filters.specs.meaning.string.Case as text_letters
+use Rattle.liquid_filters.specs.meaning.string.Lines as text_lines
+use Rattle.liquid_filters.specs.meaning.string.Replacement as text_replacing
+use Rattle.liquid_filters.specs.meaning.string.Splitting as text_splitting
+use Rattle.liquid_filters.specs.meaning.list.Choices as choice
+use Rattle.liquid_filters.specs.meaning.list.Lists as listed
+use Rattle.liquid_filters.specs.meaning.sort.Numbers as by_number
+use Rattle.liquid_filters.specs.meaning.sort.Order as order
+use Rattle.liquid_filters.specs.meaning.list.Searches as searching
+use Rattle.liquid_filters.specs.meaning.list.Sums as sums
+use Rattle.liquid_filters.specs.meaning.number.Filters as number
+use Rattle.liquid_filters.specs.meaning.number.Units as units
 use Rattle.liquid_filters.specs.declared.date_kind.DateKind.{DateKind}
 use Rattle.liquid_filters.specs.declared.kinds.StdKind.{StdKind}
 use Rattle.liquid_filters.specs.declared.kinds.StdKind.TheVariants as std

@@ -5,8 +5,8 @@ use Rattle.liquid_scalar.specs.meaning.Scalar.{integer, boolean, text}
 use Rattle.liquid_value.specs.declared.state.State.TheVariants.{DefaultValue}
 use Rattle.liquid_value.specs.meaning.Kind.{query_state}
 use Rattle.liquid_value.specs.meaning.Tree.{Tree, scalar}
-use Rattle.filter_values.specs.meaning.Errors.{unexpected_arguments}
-use Rattle.filter_values.specs.meaning.Parts.{size_of, truthy}
+use Rattle.liquid_filters.specs.meaning.value.Errors.{unexpected_arguments}
+use Rattle.liquid_filters.specs.meaning.value.Parts.{size_of, truthy}
 use Rattle.liquid_filters.specs.meaning.Calls.{keyword_of}
 use Rattle.liquid_filters.specs.meaning.Given.{Given}
 

@@ -11,7 +11,7 @@ use Rattle.liquid_value.specs.meaning.Tree.{Tree, nil, scalar}
 use Rattle.filter_dates.specs.meaning.Moments.{IsMomentOf}
 use Rattle.filter_dates.proofs.MomentLemmas.{moment_of}
 use Rattle.liquid_filters.specs.meaning.Dates.{formatted, printed}
-use Rattle.filter_values.specs.meaning.Errors.{found_error, unexpected_arguments}
+use Rattle.liquid_filters.specs.meaning.value.Errors.{found_error, unexpected_arguments}
 use Rattle.liquid_jekyll.specs.declared.dates.DateForm.{DateForm}
 use Rattle.liquid_jekyll.specs.declared.dates.DateForm.TheVariants.{Short, Long, Xmlschema, Rfc822}
 use Rattle.liquid_jekyll.specs.declared.dates.DayStyle.{DayStyle}

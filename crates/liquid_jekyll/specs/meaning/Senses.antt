@@ -3,13 +3,13 @@ use Rattle.std.specs.Prelude.{ℕ, List, Bool, codes, Ok}
 use Rattle.liquid_filters.specs.meaning.Json.{as_json}
 use Rattle.liquid_filters.specs.meaning.Sense.{FilterSense}
 use Rattle.liquid_filters.specs.meaning.Standard.{alone, at_most_two, none, one, one_or_none, one_or_two, placed, two}
-use Rattle.filter_strings.specs.meaning.Encoding.{url_encoded}
-use Rattle.jekyll_lists.specs.meaning.Choosing as choosing
-use Rattle.jekyll_lists.specs.meaning.Grouping as grouping
-use Rattle.jekyll_lists.specs.meaning.Ordering as ordering
-use Rattle.jekyll_values.specs.meaning.Lists as list
-use Rattle.jekyll_values.specs.meaning.Numbers as number
-use Rattle.jekyll_values.specs.meaning.Texts as text
+use Rattle.liquid_filters.specs.meaning.string.Encoding.{url_encoded}
+use Rattle.liquid_jekyll.specs.meaning.list.Choosing as choosing
+use Rattle.liquid_jekyll.specs.meaning.list.Grouping as grouping
+use Rattle.liquid_jekyll.specs.meaning.list.Ordering as ordering
+use Rattle.liquid_jekyll.specs.meaning.value.Lists as list
+use Rattle.liquid_jekyll.specs.meaning.value.Numbers as number
+use Rattle.liquid_jekyll.specs.meaning.value.Texts as text
 use Rattle.liquid_jekyll.specs.declared.date_kinds.JekyllDateKind.{JekyllDateKind}
 use Rattle.liquid_jekyll.specs.declared.dates.DateForm.{DateForm}
 use Rattle.liquid_jekyll.specs.declared.dates.DateForm.TheVariants.{Short, Long, Xmlschema, Rfc822}

@@ -10,6 +10,7 @@ use Rattle.liquid_value.specs.meaning.View.{members_view}
 use Rattle.liquid_runtime.specs.meaning.Maps.{names_of}
 use Rattle.liquid_parser.specs.meaning.Lang.{Lang}
 use Rattle.liquid_template.specs.meaning.Sunk.{Sunk}
+use Rattle.liquid_partials.specs.meaning.Each.{each}
 use Rattle.liquid_partials.specs.meaning.Sources.{Texts}
 use Rattle.liquid_pages.specs.declared.options.PageOptions.{PageOptions}
 use Rattle.liquid_pages.specs.meaning.Pages.{Renders, Settings}
@@ -21,8 +22,9 @@ ComesTo (Some page) written (Err error) = ⊥
 ComesTo None written (Ok _) = ¬ (IsUtf8 written)
 ComesTo None written (Err error) = ¬ (told error ≡ None)
 
-module _ {Reg F T P L B Q : Type 0} (s : Settings Reg F T P B Q) (l : Lang F T L B) (options : PageOptions) (partials : Texts) where
-  -- a text was rendered over these names into an empty sink, and comes to the page
+module _ {Reg F T P L B Q : Type 0} (rewritten : List ℕ → List ℕ) (s : Settings Reg F T P B Q) (l : Lang F T L B) (options : PageOptions)
+    (partials : Texts) where
+  -- a text was rendered over these names into an empty sink, and comes to the page. It and the partials are read rewritten
   pub record Answered (text : List ℕ) (names : Members) (page : Option (List ℕ)) : Type 0 where
     pub globals : BTreeMap (String Global) Value
     pub names_are : members_view globals.entries ≡ names
@@ -30,5 +32,5 @@ module _ {Reg F T P L B Q : Type 0} (s : Settings Reg F T P B Q) (l : Lang F T L
     pub after : Sunk
     pub result : Result (Unit {0}) Error
     pub is_empty : before.taken ≡ []
-    pub renders : Renders s l options text (names_of globals) (Some partials) before after result
+    pub renders : Renders s l options (rewritten text) (names_of globals) (Some (each rewritten partials)) before after result
     pub comes : ComesTo page after.taken result

@@ -10,17 +10,21 @@ use Rattle.liquid_partials.specs.meaning.Sources.{Texts}
 use Rattle.liquid_files.specs.meaning.Files.{Request, known_in, listing, reading}
 use Rattle.page_site.specs.meaning.Answers.{Answers}
 use Rattle.page_site.specs.meaning.Items.{IsMade, ItemShape, WritesItems, file_in, items_at}
+use Rattle.page_site.specs.declared.partials.PartialNames.{PartialNames}
+use Rattle.page_site.specs.declared.partials.PartialNames.TheVariants.{WithoutEnding, WholePaths}
 use Rattle.page_site.specs.meaning.Partials.{partial_in}
 use Rattle.page_site.specs.meaning.Requested.{partial_requests}
 use Rattle.liquid_page.specs.meaning.Names.{ReadsAll, SetsAll, path_in, path_named}
 
--- the words for files: templates, data, texts that are set, the folder of the partials, and where pages go
+-- the words for files: templates, data, texts that are set, the folder of the partials, and where pages go; and whether the
+-- templates are as Jekyll's authors write them
 pub record Words : Type 0 where
   pub templates : List (List ℕ)
   pub data_words : List (List ℕ)
   pub sets : List (List ℕ)
   pub folder : Option (List ℕ)
   pub output : Option (List ℕ)
+  pub is_jekyll : Bool
 
 -- whether a path names a folder, by its end
 abbrev pub is_folder : List ℕ → Bool
@@ -59,17 +63,21 @@ pub record Site : Type 0 where
 abbrev pub NamesAre : (List ℕ → Option (List ℕ)) → Words → Members → Type 0
 NamesAre files words names = (read : Members) × ReadsAll files words.data_words no_members read × SetsAll words.sets read names
 
+-- what partials are called: as Jekyll's authors call them, by their whole paths
+abbrev pub partial_names : Bool → PartialNames
+partial_names is_jekyll = if is_jekyll then WholePaths else WithoutEnding
+
 module _ (files : List ℕ → Option (List ℕ)) (folders : Bool → List ℕ → Option (List (List ℕ))) where
   -- the partials of a folder, if there is one
-  abbrev pub PartialsAre : Option (List ℕ) → (List ℕ → Option (List ℕ)) → Type 0
-  PartialsAre None partials = (name : List ℕ) → partials name ≡ None
-  PartialsAre (Some folder) partials = (names : List (List ℕ)) × (folders true folder ≡ Some names)
-      × ((name : List ℕ) → partials name ≡ partial_in files folder names name)
+  abbrev pub PartialsAre : PartialNames → Option (List ℕ) → (List ℕ → Option (List ℕ)) → Type 0
+  PartialsAre called None partials = (name : List ℕ) → partials name ≡ None
+  PartialsAre called (Some folder) partials = (names : List (List ℕ)) × (folders true folder ≡ Some names)
+      × ((name : List ℕ) → partials name ≡ partial_in called files folder names name)
 
   -- what the words give
   pub record IsGiven (words : Words) (site : Site) : Type 0 where
     pub has_names : NamesAre files words site.names
-    pub has_partials : PartialsAre words.folder site.partials
+    pub has_partials : PartialsAre (partial_names words.is_jekyll) words.folder site.partials
     pub has_items : site.items ≡ page_items folders words
 
 -- what is read, in order: the data, the partials, the folders of templates, and each file of a page

@@ -7,7 +7,7 @@ use Rattle.std.specs.Path.{path_file_name}
 use Rattle.std.specs.Str.{bytes_eq}
 use Rattle.liquid_value.specs.meaning.Tree.{Members, object, member, no_members}
 use Rattle.page_data.specs.declared.read.Format.{Format}
-use Rattle.page_data.specs.declared.read.Format.TheVariants.{Json}
+use Rattle.page_data.specs.declared.read.Format.TheVariants.{Csv, Json, Toml}
 use Rattle.page_data.specs.meaning.Document.{DataGiven, ends_in, format_of}
 use Rattle.page_data.specs.meaning.Merged.{assigned, is_equals, merged}
 
@@ -41,6 +41,16 @@ list_name name = if ends_in name (codes ".csv") then take (length name - 4) name
 abbrev pub list_name_at : List ℕ → List ℕ
 list_name_at path = list_name (unwrap_or (path_file_name path) [])
 
+-- the name of the list that a word names: that of the word, or of the file
+abbrev pub list_name_in : List ℕ → List ℕ
+list_name_in word = unwrap_or (name_in word) (list_name_at (path_in word))
+
+-- the name that members go under: those of CSV are a list that has its name
+abbrev pub name_over : Format → Option (List ℕ) → Option (List ℕ)
+name_over Csv name = None
+name_over Json name = name
+name_over Toml name = name
+
 -- members under a name, if there is one
 abbrev pub under : Option (List ℕ) → Members → Members
 under None ms = ms
@@ -54,8 +64,8 @@ module _ (files : List ℕ → Option (List ℕ)) where
     pub given : Members
     pub is_there : files (path_in word) ≡ Some bytes
     pub has_format : format_at (path_in word) ≡ Some format
-    pub is_read : DataGiven format (list_name_at (path_in word)) bytes given
-    pub is_after : after ≡ merged before (under (name_in word) given)
+    pub is_read : DataGiven format (list_name_in word) bytes given
+    pub is_after : after ≡ merged before (under (name_over format (name_in word)) given)
 
   -- the words' data, one over another
   abbrev pub ReadsAll : List (List ℕ) → Members → Members → Type 0

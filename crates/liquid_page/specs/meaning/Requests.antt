@@ -11,4 +11,5 @@ words_of request = record {
   sets = map (λ word. word.now) request.sets.items;
   folder = text_given request.folder;
   output = text_given request.output;
+  is_jekyll = request.is_jekyll;
 }

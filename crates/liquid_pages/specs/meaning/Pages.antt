@@ -3,6 +3,7 @@ use Rattle.std.specs.Prelude.{◌≡◌, ℕ, Bool, List, Option, None, Some, Re
 use Rattle.std.specs.FinMap.{empty}
 use Rattle.liquid_error.specs.declared.error.Error.{Error}
 use Rattle.liquid_error.specs.meaning.Refusal.{Refusal}
+use Rattle.liquid_runtime.specs.declared.leniency.Leniency.{Leniency}
 use Rattle.liquid_runtime.specs.meaning.Maps.{Names}
 use Rattle.liquid_runtime.specs.meaning.Frames.{built_view, leniently}
 use Rattle.liquid_runtime.specs.meaning.View.{View}
@@ -27,9 +28,9 @@ use Rattle.liquid_pages.specs.declared.options.PageFrame.TheVariants.{Open, Sand
 use Rattle.liquid_pages.specs.declared.options.PageOptions.{PageOptions}
 use Rattle.liquid_pages.specs.meaning.Limited.{limited, room_of}
 
--- the view of a built runtime with these globals, lenient or not, whose register has its first value
-abbrev pub built_over : {Reg : Type 0} → Reg → Bool → Names → View Reg
-built_over fresh lenient globals = leniently lenient (built_view fresh 32 globals)
+-- the view of a built runtime of this leniency with these globals, whose register has its first value
+abbrev pub built_over : {Reg : Type 0} → Reg → Leniency → Names → View Reg
+built_over fresh leniency globals = leniently leniency (built_view fresh 32 globals)
 
 -- the globals that the runtime has: in a sandbox, and in isolation, it has none
 abbrev pub runtime_names : PageFrame → Names → Names
@@ -39,7 +40,7 @@ runtime_names Isolated globals = empty
 
 -- the view that rendering with these options begins with
 abbrev pub first_view : {Reg : Type 0} → Reg → PageOptions → Names → View Reg
-first_view fresh options globals = built_over fresh options.lenient (runtime_names options.frame globals)
+first_view fresh options globals = built_over fresh options.leniency (runtime_names options.frame globals)
 
 -- the nodes in a template, from the shapes of what plug-ins made
 abbrev pub nodes_in : {X N K F T B : Type 0} → (X → F) → (N → T) → (K → B) → Template X N K → List (NodeShape F T B)

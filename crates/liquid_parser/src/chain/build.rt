@@ -41,7 +41,7 @@ pub(crate) fn build_value<'a>(
     }
 }
 
-/// Does the same for a value with this beginning, where the text follows that beginning.
+/// Reads a value whose head has been read already. The text is what follows the head.
 #[cycle(build)]
 pub(crate) fn build_from<'a>(
     alloc: Global,

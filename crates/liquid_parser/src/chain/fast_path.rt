@@ -19,7 +19,7 @@ use crate::chain::build::build_from;
 use crate::plugin::block::ParseBlock;
 use crate::plugin::language::Language;
 use crate::plugin::tag::ParseTag;
-use crate::reading::place::refused_at;
+use crate::reading::place::error_at;
 use liquid_error::Error;
 use liquid_grammar::{
     ChainStep, FilterStart, Head, chain_step, expression_end, expression_start, value_head,
@@ -61,7 +61,7 @@ pub(crate) fn fast_expression<
     }
 }
 
-/// Does the same, from the chain on. It is a function of its own, so that the walk over tags and raw text stays short.
+/// Reads an expression from its chain on. It is a function of its own, so that the walk over tags and raw text stays short.
 #[inline(never)]
 fn fast_from_chain<'a, F: ParseFilter + Drop, T: ParseTag<F> + Drop, B: ParseBlock<F> + Drop>(
     alloc: Global,
@@ -97,7 +97,7 @@ pub(crate) fn no_expression(alloc: Global, source: &str, brace: &str) -> Error
     ensures { (following : List ℕ) → brace.now ≡ open_brace ∷ following
         → IfSome (told result) (λ r. r ≡ refused_at source.now (codes "Invalid liquid") (open_brace ∷ following)) }
 {
-    refused_at(alloc, source, "Invalid liquid", brace)
+    error_at(alloc, source, "Invalid liquid", brace)
 }
 
 /// Returns the node of a name alone, where this many bytes of the source are left.

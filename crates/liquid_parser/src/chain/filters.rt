@@ -13,8 +13,8 @@ ghost use Rattle.liquid_parser.specs.meaning.Handed as spec;
 
 use crate::chain::arguments::build_arguments;
 use crate::chain::build::build_value;
-use crate::chain::names::listed;
-use crate::reading::place::{place_in, refused_at, slice_between};
+use crate::chain::names::list_names;
+use crate::reading::place::{error_at, place_in, slice_between};
 use liquid_error::Error;
 use liquid_grammar::{FilterStart, next_filter};
 use liquid_plugins::{FilterChain, ParseFilter, PluginRegistry};
@@ -38,7 +38,7 @@ pub(crate) fn parse_chain<F: ParseFilter + Drop>(
             let filters = parse_filters(alloc, source, rest, registry)?;
             Ok(FilterChain { entry, filters })
         }
-        None => Err(refused_at(alloc, source, "Invalid liquid", s)),
+        None => Err(error_at(alloc, source, "Invalid liquid", s)),
     }
 }
 
@@ -76,19 +76,19 @@ fn parse_filter<'a, F: ParseFilter + Drop>(
 {
     let plug_in = match registry.get(start.name) {
         Some(plug_in) => plug_in,
-        None => return Err(unknown_filter(alloc, source, start, registry)),
+        None => return Err(unknown_filter_error(alloc, source, start, registry)),
     };
     match build_arguments(alloc, start.rest)? {
         Some((arguments, rest)) => match plug_in.parse(alloc, arguments) {
             Ok(filter) => Ok((filter, rest)),
             Err(error) => Err(filter_refused(alloc, source, start.place, rest, error)),
         },
-        None => Err(refused_at(alloc, source, "Invalid liquid", start.place)),
+        None => Err(error_at(alloc, source, "Invalid liquid", start.place)),
     }
 }
 
 /// Returns the error for a filter that the registry doesn't have.
-fn unknown_filter<F: ParseFilter + Drop>(
+fn unknown_filter_error<F: ParseFilter + Drop>(
     alloc: Global,
     source: &str,
     start: FilterStart<'_>,
@@ -97,11 +97,11 @@ fn unknown_filter<F: ParseFilter + Drop>(
     ensures { (f : token.Filter) → f.place ≡ start.entry.place.now → f.what.0 ≡ start.entry.name.now
         → IfSome (told result) (λ r. r ≡ unknown_filter (registry_of F.makes registry.now) source.now f) }
 {
-    let filters = match listed(alloc, registry) {
+    let filters = match list_names(alloc, registry) {
         Ok(names) => names,
         Err(_) => return Error::Memory,
     };
-    refused_at(alloc, source, "Unknown filter", start.place)
+    error_at(alloc, source, "Unknown filter", start.place)
         .context(alloc, "requested filter", start.name)
         .context(alloc, "available filters", filters.as_str())
 }

@@ -8,7 +8,7 @@ use liquid_plugins::PluginRegistry;
 use std::alloc::{AllocError, Global};
 
 /// Returns the names of a registry, joined by `, `.
-pub(crate) fn listed<P: Drop>(
+pub(crate) fn list_names<P: Drop>(
     alloc: Global,
     registry: &PluginRegistry<P>,
 ) -> Result<String, AllocError>

@@ -10,7 +10,7 @@ ghost use Rattle.liquid_parser.specs.meaning.Variables.{WholeVariable, variable_
 ghost use Rattle.liquid_parser.specs.meaning.WholeTag.{Refuses};
 
 use crate::chain::build::build_variable;
-use crate::reading::place::{check, refused_at};
+use crate::reading::place::{check, error_at};
 use liquid_error::Error;
 use liquid_grammar::{Fault, match_identifier, match_variable, one_match};
 use liquid_plugins::Variable;
@@ -29,10 +29,10 @@ pub fn parse_variable(alloc: Global, text: &str) -> std::result::Result<Variable
             if rest.is_empty() {
                 whole_variable(alloc, text, fault)
             } else {
-                Err(refused_at(alloc, text, "Invalid liquid", text))
+                Err(error_at(alloc, text, "Invalid liquid", text))
             }
         }
-        None => Err(refused_at(alloc, text, "Invalid liquid", text)),
+        None => Err(error_at(alloc, text, "Invalid liquid", text)),
     }
 }
 
@@ -51,10 +51,10 @@ fn whole_variable(
         Some((name, rest)) => match build_variable(alloc, name, rest, 0)? {
             Some((expression, _)) => match expression.into_variable() {
                 Some(variable) => Ok(variable),
-                None => Err(refused_at(alloc, text, "Invalid liquid", text)),
+                None => Err(error_at(alloc, text, "Invalid liquid", text)),
             },
-            None => Err(refused_at(alloc, text, "Invalid liquid", text)),
+            None => Err(error_at(alloc, text, "Invalid liquid", text)),
         },
-        None => Err(refused_at(alloc, text, "Invalid liquid", text)),
+        None => Err(error_at(alloc, text, "Invalid liquid", text)),
     }
 }

@@ -10,12 +10,12 @@ ghost use Rattle.liquid_parser.specs.meaning.Plugins.{language_of};
 ghost use Rattle.liquid_grammar.specs.meaning.Cover as cover;
 ghost use Rattle.liquid_parser.specs.meaning.Reading as spec;
 
-use crate::cursor::element::{BlockElement, hand_over};
+use crate::cursor::element::{BlockElement, check_element};
 use crate::cursor::tag::Tag;
 use crate::plugin::block::ParseBlock;
 use crate::plugin::language::Language;
 use crate::plugin::tag::ParseTag;
-use crate::reading::escape::{escape, unclosed};
+use crate::reading::escape::{escape, unclosed_error};
 use liquid_error::Error;
 use liquid_grammar::next_element;
 use liquid_plugins::{Node, ParseFilter};
@@ -72,12 +72,12 @@ impl<'a, 'n> TagBlock<'a, 'n> {
         match next_element(place) {
             Some((found, following)) => {
                 self.rest = following;
-                let element = hand_over(alloc, self.source, place, found)?;
+                let element = check_element(alloc, self.source, place, found)?;
                 let is_end = is_end(alloc, element, self.end_name)?;
                 self.is_closed = is_end;
                 if is_end { Ok(None) } else { Ok(Some(element)) }
             }
-            None => Err(unclosed(alloc, self.source, self.end_name)),
+            None => Err(unclosed_error(alloc, self.source, self.end_name)),
         }
     }
 
@@ -104,7 +104,7 @@ impl<'a, 'n> TagBlock<'a, 'n> {
             }
             None => {
                 self.rest = self.rest.split_at(self.rest.len()).1;
-                Err(unclosed(alloc, self.source, self.end_name))
+                Err(unclosed_error(alloc, self.source, self.end_name))
             }
         }
     }

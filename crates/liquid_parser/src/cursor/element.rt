@@ -185,7 +185,7 @@ impl<'a> BlockElement<'a> {
 
 /// Returns an element of the source, after checking its literals and brackets.
 #[inline(always)]
-pub(crate) fn hand_over<'a>(
+pub(crate) fn check_element<'a>(
     alloc: Global,
     source: &'a str,
     place: &'a str,

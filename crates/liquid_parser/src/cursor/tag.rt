@@ -16,7 +16,7 @@ use crate::plugin::language::Language;
 use crate::plugin::tag::ParseTag;
 use crate::reading::closing::{AROUND, read_after_tag};
 use crate::reading::dispatch::dispatch;
-use crate::reading::place::{check, refused_at};
+use crate::reading::place::{check, error_at};
 use crate::reading::stack::ParserState;
 use liquid_error::Error;
 use liquid_grammar::{Element, TagText, next_element};
@@ -56,7 +56,7 @@ impl<'a> Tag<'a> {
                     },
                 })
             }
-            None => Err(refused_at(alloc, text, "Invalid liquid", text)),
+            None => Err(error_at(alloc, text, "Invalid liquid", text)),
         }
     }
 
@@ -120,7 +120,7 @@ impl<'a> Tag<'a> {
         block.rest = rest;
         match nodes.pop() {
             Some(node) => Ok(node),
-            None => Err(refused_at(alloc, block.source, "Invalid liquid", rest)),
+            None => Err(error_at(alloc, block.source, "Invalid liquid", rest)),
         }
     }
 }

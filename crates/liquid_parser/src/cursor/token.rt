@@ -11,7 +11,7 @@ ghost use Rattle.liquid_parser.specs.meaning.Plugins.{registry_of};
 
 use crate::chain::build::{build_value, literal_value};
 use crate::chain::filters::parse_chain;
-use crate::reading::place::refused_at;
+use crate::reading::place::error_at;
 use liquid_error::Error;
 use liquid_grammar::{TokenKind, TokenParts, TokenText};
 use liquid_plugins::{Expression, FilterChain, ParseFilter, PluginRegistry, Variable};
@@ -54,7 +54,7 @@ impl<'a> TagToken<'a> {
     pub fn raise_custom_error(self, alloc: Global, message: &str) -> Error
         ensures { (t : Token) → IsToken self.entry t → IfSome (told result) (λ r. r ≡ token_error message.now t) }
     {
-        refused_at(alloc, self.source, message, self.text.place)
+        error_at(alloc, self.source, message, self.text.place)
     }
 
     /// Reads the name of a variable without indexes and filters.

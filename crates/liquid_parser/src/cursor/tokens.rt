@@ -8,7 +8,7 @@ ghost use Rattle.liquid_parser.specs.meaning.Plugins.{AreTokens, registry_of};
 ghost use Rattle.liquid_plugins.specs.meaning.ExpressionOf.{chain_of, expression_of};
 
 use crate::cursor::token::TagToken;
-use crate::reading::place::refused_at;
+use crate::reading::place::error_at;
 use liquid_error::Error;
 use liquid_grammar::{match_token, match_white, next_token};
 use liquid_plugins::{Expression, FilterChain, ParseFilter, PluginRegistry};
@@ -63,7 +63,7 @@ impl<'a> TagTokenIter<'a> {
     pub fn raise_error(&self, alloc: Global, message: &str) -> Error
         ensures { (ts : Tokens) → AreTokens self.now ts → IfSome (told result) (λ r. r ≡ located message.now ts.following) }
     {
-        refused_at(alloc, self.source, message, self.rest)
+        error_at(alloc, self.source, message, self.rest)
     }
 
     /// Checks that no token is left. Otherwise the next one is an error.
@@ -73,7 +73,7 @@ impl<'a> TagTokenIter<'a> {
         let (_, rest) = match_white(self.rest);
         match match_token(rest) {
             None => Ok(()),
-            Some(_) => Err(refused_at(alloc, self.source, "Unexpected token", rest)),
+            Some(_) => Err(error_at(alloc, self.source, "Unexpected token", rest)),
         }
     }
 }

@@ -5,7 +5,7 @@ ghost use Rattle.liquid_parser.specs.meaning.ElementReading.{read_closed};
 ghost use Rattle.liquid_parser.specs.meaning.Plugins.{language_of};
 ghost use Rattle.liquid_parser.specs.steps.Views.{ReadsOn};
 
-use crate::cursor::element::hand_over;
+use crate::cursor::element::check_element;
 use crate::plugin::block::ParseBlock;
 use crate::plugin::language::Language;
 use crate::plugin::tag::ParseTag;
@@ -73,7 +73,7 @@ fn read_until_closed<
     'elements: while !state.open.is_empty() {
         match next_element(rest) {
             Some((found, following)) => {
-                let element = hand_over(alloc, source, rest, found)?;
+                let element = check_element(alloc, source, rest, found)?;
                 rest = advance(
                     alloc, AROUND, source, &mut state, element, following, language,
                 )?;

@@ -7,12 +7,12 @@ ghost use Rattle.liquid_parser.specs.meaning.Reading.{among, block_begun, closed
 ghost use Rattle.liquid_parser.specs.meaning.WholeTag.{IfTag};
 ghost use Rattle.liquid_parser.specs.steps.Views.{Steps, StepsInside};
 
-use crate::chain::names::{is_among, listed};
+use crate::chain::names::{is_among, list_names};
 use crate::cursor::tag::Tag;
 use crate::plugin::block::ParseBlock;
 use crate::plugin::language::Language;
 use crate::plugin::tag::ParseTag;
-use crate::reading::place::refused_at;
+use crate::reading::place::error_at;
 use crate::reading::stack::{Next, ParserState};
 use crate::reading::steps::{begin_block, close_block, divide_block, tag_node};
 use liquid_error::Error;
@@ -107,7 +107,7 @@ fn dispatch_outside<'a, F: ParseFilter + Drop, T: ParseTag<F> + Drop, B: ParseBl
         }
         None => match language.blocks.get(tag.name) {
             Some(kind) => open_block(alloc, outside, kind, state, tag, language),
-            None => Err(unknown_tag(alloc, tag, language)),
+            None => Err(unknown_tag_error(alloc, tag, language)),
         },
     }
 }
@@ -125,7 +125,7 @@ fn open_block<'a, F: ParseFilter + Drop, T: ParseTag<F> + Drop, B: ParseBlock<F>
         state.old state.new result (block_begun (language_of F.makes T.gives B.block language.now) source outside t (B.block kind.now))) }
 {
     if state.open.len() >= BLOCK_LIMIT.saturating_sub(outside) {
-        return Err(refused_at(alloc, tag.tokens.source, "Nested too deep", tag.from));
+        return Err(error_at(alloc, tag.tokens.source, "Nested too deep", tag.from));
     }
     let nodes = mem::replace(&mut state.nodes, Vec::new(alloc));
     let block = begin_block::<F, T, B>(alloc, kind, nodes, tag, &language.filters)?;
@@ -137,7 +137,7 @@ fn open_block<'a, F: ParseFilter + Drop, T: ParseTag<F> + Drop, B: ParseBlock<F>
 }
 
 /// Returns the error for a tag that the language has neither as a tag nor as a block.
-fn unknown_tag<F: ParseFilter + Drop, T: ParseTag<F> + Drop, B: ParseBlock<F> + Drop>(
+fn unknown_tag_error<F: ParseFilter + Drop, T: ParseTag<F> + Drop, B: ParseBlock<F> + Drop>(
     alloc: Global,
     tag: Tag<'_>,
     language: &Language<F, T, B>,
@@ -145,15 +145,15 @@ fn unknown_tag<F: ParseFilter + Drop, T: ParseTag<F> + Drop, B: ParseBlock<F> + 
     ensures { IfTag tag.entry (λ source t. IfSome (told result)
         (λ r. r ≡ unknown_tag (language_of F.makes T.gives B.block language.now) source t)) }
 {
-    let tags = match listed(alloc, &language.tags) {
+    let tags = match list_names(alloc, &language.tags) {
         Ok(names) => names,
         Err(_) => return Error::Memory,
     };
-    let blocks = match listed(alloc, &language.blocks) {
+    let blocks = match list_names(alloc, &language.blocks) {
         Ok(names) => names,
         Err(_) => return Error::Memory,
     };
-    refused_at(alloc, tag.tokens.source, "Unknown tag.", tag.from)
+    error_at(alloc, tag.tokens.source, "Unknown tag.", tag.from)
         .context(alloc, "requested", tag.name)
         .context(alloc, "available tags", tags.as_str())
         .context(alloc, "available blocks", blocks.as_str())

@@ -12,7 +12,7 @@ ghost use Rattle.liquid_parser.specs.meaning.Reading as spec;
 
 use crate::plugin::block::ParseBlock;
 use crate::plugin::tag::ParseTag;
-use crate::reading::place::refused_at;
+use crate::reading::place::error_at;
 use crate::reading::stack::{OpenBlock, ParserState};
 use crate::reading::steps::close_escaped;
 use liquid_error::Error;
@@ -39,16 +39,16 @@ pub(crate) fn read_escaped<'a, 't, F: ParseFilter, T: ParseTag<F>, B: ParseBlock
             state.nodes = close_escaped::<F, T, B>(alloc, block, text)?;
             Ok(after)
         }
-        None => Err(unclosed(alloc, source, kind.end_tag())),
+        None => Err(unclosed_error(alloc, source, kind.end_tag())),
     }
 }
 
 /// Returns the error for a text that ends inside a block with this end name.
-pub(crate) fn unclosed(alloc: Global, source: &str, end_name: &str) -> Error
+pub(crate) fn unclosed_error(alloc: Global, source: &str, end_name: &str) -> Error
     ensures { IfSome (told result) (λ r. r ≡ unclosed_by source.now end_name.now) }
 {
     match unclosed_message(alloc, end_name) {
-        Ok(message) => refused_at(alloc, source, message.as_str(), ""),
+        Ok(message) => error_at(alloc, source, message.as_str(), ""),
         Err(_) => Error::Memory,
     }
 }

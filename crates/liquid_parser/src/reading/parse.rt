@@ -10,12 +10,12 @@ ghost use Rattle.liquid_parser.specs.steps.Views.{state_view};
 ghost use Rattle.liquid_parser.specs.meaning.Reading as spec;
 
 use crate::chain::fast_path::{Walked, fast_expression, no_expression};
-use crate::cursor::element::hand_over;
+use crate::cursor::element::check_element;
 use crate::plugin::block::ParseBlock;
 use crate::plugin::language::Language;
 use crate::plugin::tag::ParseTag;
 use crate::reading::advance::advance;
-use crate::reading::escape::unclosed;
+use crate::reading::escape::unclosed_error;
 use crate::reading::stack::ParserState;
 use liquid_error::Error;
 use liquid_grammar::{match_white, next_element};
@@ -70,7 +70,7 @@ fn read_nodes<'a, F: ParseFilter + Drop, T: ParseTag<F> + Drop, B: ParseBlock<F>
             Walked::NoExpression => return Err(no_expression(alloc, text, match_white(rest).1)),
             Walked::Undecided => match next_element(rest) {
                 Some((found, following)) => {
-                    let element = hand_over(alloc, text, rest, found)?;
+                    let element = check_element(alloc, text, rest, found)?;
                     rest = advance(alloc, 0, text, &mut state, element, following, language)?;
                 }
                 None => return end_reading::<F, T, B>(alloc, text, state),
@@ -96,6 +96,6 @@ pub(crate) fn end_reading<
     let ParserState { mut open, nodes } = state;
     match open.pop() {
         None => Ok(nodes),
-        Some(block) => Err(unclosed(alloc, source, block.kind.end_tag())),
+        Some(block) => Err(unclosed_error(alloc, source, block.kind.end_tag())),
     }
 }

@@ -38,7 +38,7 @@ pub(crate) fn slice_between<'a>(place: &'a str, following: &str) -> &'a str
 }
 
 /// Returns an error with this message about the place that is followed by this text.
-pub(crate) fn refused_at(alloc: Global, source: &str, message: &str, following: &str) -> Error
+pub(crate) fn error_at(alloc: Global, source: &str, message: &str, following: &str) -> Error
     ensures { IfSome (told result) (λ r. r ≡ refused_at source.now message.now following.now) }
 {
     Error::at_place(alloc, message, place_in(source, following))
@@ -60,7 +60,7 @@ pub(crate) fn check(
                 FaultKind::DecimalNotSupported => "Decimal not supported",
                 FaultKind::NestedTooDeep => "Nested too deep",
             };
-            Err(refused_at(alloc, source, message, fault.place))
+            Err(error_at(alloc, source, message, fault.place))
         }
     }
 }

@@ -1,11 +1,12 @@
 -- The value of an expression in a view.
-use Rattle.std.specs.Prelude.{◌≡◌, [], ◌∷◌, codes, Option, Some, Result, Ok, IfOk, ok_or, option_map, option_and_then}
+use Rattle.std.specs.Prelude.{◌≡◌, [], ◌∷◌, codes, cond, Option, Some, Result, Ok, Err, IfOk, ok_or, option_map, option_and_then}
 use Rattle.liquid_error.specs.meaning.Refusal.{Refusal, plain, with_context}
 use Rattle.liquid_scalar.specs.meaning.Scalar.{Scal}
-use Rattle.liquid_value.specs.meaning.Tree.{Tree}
+use Rattle.liquid_value.specs.meaning.Tree.{Tree, nil}
 use Rattle.liquid_value.specs.meaning.Parts.{as_scalar}
 use Rattle.liquid_value.specs.meaning.Render.{source}
 use Rattle.liquid_error.specs.meaning.Refusal.{ok_then}
+use Rattle.liquid_runtime.specs.meaning.Leniency.{includes_indexes}
 use Rattle.liquid_runtime.specs.meaning.View.{View}
 use Rattle.liquid_runtime.specs.meaning.Lookup.{try_path, found}
 use Rattle.liquid_paths.specs.meaning.Walk.{Path}
@@ -15,11 +16,16 @@ use Rattle.liquid_plugins.specs.meaning.Expression.{ExpressionShape, literal, va
 abbrev pub expected_scalar : Tree → Refusal
 expected_scalar t = with_context (codes "found") (source t) (plain (codes "Expected scalar"))
 
+-- the value at a path; if an index of it is refused, nil in a view that is lenient in indexes
+abbrev pub at_path : {Reg : Type 0} → View Reg → Result Path Refusal → Result Tree Refusal
+at_path v (Ok path) = found v path
+at_path v (Err refusal) = cond (includes_indexes v.lenient) (Ok nil) (Err refusal)
+
 -- a literal is its value; a variable is what its path gives, after its indexes are evaluated from left to right
 abbrev mutual
   pub evaluate : {Reg : Type 0} → View Reg → ExpressionShape → Result Tree Refusal
   evaluate v (literal t) = Ok t
-  evaluate v (variable name indexes) = ok_then (path_of v indexes) (λ path. found v (name ∷ path))
+  evaluate v (variable name indexes) = at_path v (ok_then (path_of v indexes) (λ path. Ok (name ∷ path)))
 
   pub path_of : {Reg : Type 0} → View Reg → Indexes → Result Path Refusal
   path_of v no_indexes = Ok []

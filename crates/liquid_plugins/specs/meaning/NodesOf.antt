@@ -1,7 +1,6 @@
 -- The shapes of a template's nodes, from the shapes of what plug-ins made.
 use Rattle.std.specs.Prelude.{◌≡◌, ◌⊎◌, ℕ, List, [], map, String, string_bytes}
 use Rattle.std.specs.declared.alloc.Global.{Global}
-use Rattle.std.specs.Global.{Vec}
 use Rattle.liquid_scalar.specs.meaning.Scalar.{text}
 use Rattle.liquid_plugins.specs.meaning.Chain.{ChainShape}
 use Rattle.liquid_plugins.specs.meaning.Expression.{variable, no_indexes}

@@ -2,6 +2,7 @@
 use Rattle.std.specs.Prelude.{◌≡◌, ℕ, Bool, true, false, ◌⊎◌, List, [], Option, None, Some, Result, Ok, Err, nat_eq, if◌then◌else◌}
 use Rattle.std.specs.Io.KnownBytes.{Appends}
 use Rattle.liquid_error.specs.declared.error.Error.{Error}
+use Rattle.liquid_runtime.specs.meaning.Leniency.{lenient_paths}
 use Rattle.liquid_runtime.specs.meaning.Maps.{Names}
 use Rattle.liquid_template.specs.meaning.Sunk.{Sunk, sunk}
 use Rattle.liquid_partials.specs.meaning.Sources.{Texts}
@@ -31,7 +32,7 @@ abbrev pub page_options : Options → PageOptions
 page_options options = record {
   frame = page_frame options.standard options.sandboxed;
   decimals = options.decimals;
-  lenient = options.lenient;
+  leniency = lenient_paths options.lenient;
   max_turns = limit_of options.max_turns;
   max_bytes = limit_of options.max_bytes;
 }

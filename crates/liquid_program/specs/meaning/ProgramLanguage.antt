@@ -15,9 +15,9 @@ use Rattle.liquid_tags.specs.declared.blocks.ProgressShape.{ProgressShape}
 use Rattle.liquid_tags.specs.declared.block_plugins.PlanShape.{PlanShape}
 use Rattle.liquid_tags.specs.meaning.Languages.{tags_and_blocks}
 use Rattle.liquid_tags.specs.meaning.Library.{library}
-use Rattle.liquid_cycle.specs.declared.marks.MarksShape.{MarksShape}
-use Rattle.liquid_cycle.specs.meaning.Held.{marks_alone}
-use Rattle.liquid_cycle.specs.meaning.Marks.{no_marks}
+use Rattle.liquid_std.specs.declared.marks.marks.MarksShape.{MarksShape}
+use Rattle.liquid_std.specs.meaning.marks.Held.{marks_alone}
+use Rattle.liquid_std.specs.meaning.marks.Marks.{no_marks}
 use Rattle.liquid_std.specs.declared.tags.StdTagProgressShape.{StdTagProgressShape}
 use Rattle.liquid_std.specs.declared.tags.StdTagShape.{StdTagShape}
 use Rattle.liquid_std.specs.declared.blocks.StdBlockShape.{StdBlockShape}
@@ -32,7 +32,7 @@ use Rattle.liquid_filters.specs.meaning.Calls.{call_made, calls}
 use Rattle.liquid_filters.specs.meaning.Registered.{registered, standard_filters}
 use Rattle.liquid_filters.specs.meaning.Sense.{FilterSense}
 use Rattle.liquid_filters.specs.meaning.Standard.{std_sense}
-use Rattle.filter_strings.specs.meaning.Joints.{appended}
+use Rattle.liquid_filters.specs.meaning.string.Appending.{appended}
 use Rattle.liquid_program.specs.declared.filters.PlainKind.{PlainKind}
 use Rattle.liquid_program.specs.declared.filters.PlainKind.TheVariants.{Append, Fail}
 

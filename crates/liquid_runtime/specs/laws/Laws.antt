@@ -9,6 +9,7 @@ use Rattle.liquid_scalar.specs.meaning.Scalar.{text}
 use Rattle.liquid_value.specs.meaning.Tree.{Tree, nil}
 use Rattle.liquid_paths.specs.meaning.Walk.{Path}
 use Rattle.liquid_runtime.specs.meaning.Maps.{Names, over}
+use Rattle.liquid_runtime.specs.meaning.Leniency.{is_lenient}
 use Rattle.liquid_runtime.specs.meaning.View.{View}
 use Rattle.liquid_runtime.specs.meaning.NamesSeen.{lookup, names_seen}
 use Rattle.liquid_runtime.specs.meaning.Roots.{NamesOf}
@@ -33,11 +34,11 @@ LeftNamesFirst = (front back : Names) (name : List ℕ) → get (over front back
 
 -- in a strict view the call that can fail gives a value exactly if the other one does, and then the same one
 abbrev pub GetAgrees : Type 0 → Type 0
-GetAgrees Reg = (v : View Reg) (path : Path) → v.lenient ≡ false → result_ok (found v path) ≡ try_path v path
+GetAgrees Reg = (v : View Reg) (path : Path) → is_lenient v.lenient ≡ false → result_ok (found v path) ≡ try_path v path
 
 -- in a lenient one it always gives a value: that of the other one, or nil if that gives none
 abbrev pub LenientGetAgrees : Type 0 → Type 0
-LenientGetAgrees Reg = (v : View Reg) (path : Path) → v.lenient ≡ true → found v path ≡ Ok (unwrap_or (try_path v path) nil)
+LenientGetAgrees Reg = (v : View Reg) (path : Path) → is_lenient v.lenient ≡ true → found v path ≡ Ok (unwrap_or (try_path v path) nil)
 
 -- a path of one text has a value exactly if that text is in the set of the names that are seen
 abbrev pub RootsAreSeen : Type 0 → Type 0

@@ -1,5 +1,6 @@
 -- What a runtime builder has been given.
-use Rattle.std.specs.Prelude.{ℕ, Bool, Option}
+use Rattle.std.specs.Prelude.{ℕ, Option}
+use Rattle.liquid_runtime.specs.declared.leniency.Leniency.{Leniency}
 use Rattle.liquid_runtime.specs.meaning.Maps.{Names, names_of}
 use Rattle.liquid_runtime.specs.declared.builder.RuntimeBuilder.{RuntimeBuilder}
 
@@ -15,6 +16,6 @@ store_of builder = builder.store
 abbrev pub depth_of : {V S : Type 0} → RuntimeBuilder V S → ℕ
 depth_of builder = builder.depth
 
--- whether a path without a value is nil
-abbrev pub lenient_of : {V S : Type 0} → RuntimeBuilder V S → Bool
+-- how lenient the runtime is
+abbrev pub lenient_of : {V S : Type 0} → RuntimeBuilder V S → Leniency
 lenient_of builder = builder.lenient

@@ -3,6 +3,8 @@ use Rattle.std.specs.Prelude.{ℕ, List, Bool, true, false, Option, None, Some}
 use Rattle.std.specs.Option.{option_or}
 use Rattle.std.specs.FinMap.{empty}
 use Rattle.liquid_runtime.specs.meaning.Maps.{Names, over}
+use Rattle.liquid_runtime.specs.declared.leniency.Leniency.{Leniency}
+use Rattle.liquid_runtime.specs.declared.leniency.Leniency.TheVariants.{Strict}
 use Rattle.liquid_runtime.specs.declared.registers.Interrupt.{Interrupt}
 use Rattle.liquid_runtime.specs.meaning.View.{View, Floor, unsealed, sealed}
 use Rattle.liquid_runtime.specs.meaning.NamesSeen.{upper_names}
@@ -29,11 +31,11 @@ core_view register depth = record {
   interrupt = None;
   register = register;
   depth = depth;
-  lenient = false;
+  lenient = Strict;
 }
 
--- the view in which a path without a value is nil, or in which it is refused
-abbrev pub leniently : {Reg : Type 0} → Bool → View Reg → View Reg
+-- the view that is as lenient as that
+abbrev pub leniently : {Reg : Type 0} → Leniency → View Reg → View Reg
 leniently lenient v = record v { lenient = lenient }
 
 -- an index frame: no index variables yet

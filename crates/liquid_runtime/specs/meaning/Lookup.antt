@@ -5,6 +5,7 @@ use Rattle.liquid_scalar.specs.meaning.Scalar.{render_scalar}
 use Rattle.liquid_value.specs.meaning.Tree.{Tree, nil}
 use Rattle.liquid_error.specs.meaning.Refusal.{ok_then}
 use Rattle.liquid_runtime.specs.meaning.View.{View}
+use Rattle.liquid_runtime.specs.meaning.Leniency.{is_lenient}
 use Rattle.liquid_runtime.specs.meaning.NamesSeen.{lookup, comes_from_seal}
 use Rattle.liquid_paths.specs.meaning.Walk.{Path, walk, find_after}
 
@@ -37,4 +38,4 @@ or_nil lenient (Err refusal) = cond lenient (Ok nil) (Err refusal)
 
 -- what a path gives in a view
 abbrev pub found : {Reg : Type 0} → View Reg → Path → Result Tree Refusal
-found v path = or_nil v.lenient (strictly_found v path)
+found v path = or_nil (is_lenient v.lenient) (strictly_found v path)

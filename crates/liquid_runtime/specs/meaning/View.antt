@@ -1,6 +1,7 @@
 -- What a template sees and may change: maps of names and flags, without a list of frames.
 use Rattle.std.specs.Prelude.{ℕ, List, Bool, Option}
 use Rattle.liquid_runtime.specs.meaning.Maps.{Names}
+use Rattle.liquid_runtime.specs.declared.leniency.Leniency.{Leniency}
 use Rattle.liquid_runtime.specs.declared.registers.Interrupt.{Interrupt}
 
 -- what is below all frames: the index variables, or the names of a sandboxed frame, which seal off everything outside
@@ -30,5 +31,5 @@ pub record View (Reg : Type 0) : Type 0 where
   pub register : Reg
   -- the number of partials that may be nested
   pub depth : ℕ
-  -- whether a path without a value is nil, and is not refused
-  pub lenient : Bool
+  -- what a path without a value, and an index that is not a scalar, lead to
+  pub lenient : Leniency

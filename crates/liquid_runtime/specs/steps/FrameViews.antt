@@ -1,5 +1,6 @@
 -- The views that frames show, given what they hold.
-use Rattle.std.specs.Prelude.{ℕ, List, Bool, Option, Some}
+use Rattle.std.specs.Prelude.{ℕ, List, Option, Some}
+use Rattle.liquid_runtime.specs.declared.leniency.Leniency.{Leniency}
 use Rattle.liquid_runtime.specs.meaning.Maps.{Names}
 use Rattle.liquid_runtime.specs.meaning.View.{View}
 use Rattle.liquid_runtime.specs.meaning.Frames.{core_view, leniently, begin_global, begin_sandboxed}
@@ -7,7 +8,7 @@ use Rattle.liquid_runtime.specs.meaning.Calls.{with_registers}
 use Rattle.liquid_runtime.specs.declared.registers.Registers.{Registers}
 
 -- a core with these registers
-abbrev pub core_with : {Reg : Type 0} → Registers Reg → ℕ → Bool → View Reg
+abbrev pub core_with : {Reg : Type 0} → Registers Reg → ℕ → Leniency → View Reg
 core_with r depth lenient = leniently lenient (with_registers r (core_view r.value depth))
 
 -- an index frame in which these variables were set

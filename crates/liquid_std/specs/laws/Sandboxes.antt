@@ -9,7 +9,7 @@ use Rattle.liquid_template.specs.laws.Isolation.{SameRun}
 use Rattle.liquid_template.specs.meaning.Partials.{Found}
 use Rattle.liquid_template.specs.meaning.Rendering.{sandboxed_run}
 use Rattle.liquid_template.specs.meaning.Sandboxed.{HasGlobals, run_over_outside}
-use Rattle.liquid_cycle.specs.meaning.Held.{MarksIn}
+use Rattle.liquid_std.specs.meaning.marks.Held.{MarksIn}
 use Rattle.liquid_std.specs.declared.tags.StdTagShape.{StdTagShape}
 use Rattle.liquid_std.specs.declared.blocks.StdBlockShape.{StdBlockShape}
 use Rattle.liquid_std.specs.meaning.Standard.{standard}

@@ -17,9 +17,9 @@ use Rattle.liquid_plugins.specs.meaning.Turns.{text_turn, end_turn}
 use Rattle.liquid_plugins.proofs.Hiding.{answers_hide, evaluate_hidden}
 use Rattle.liquid_tags.specs.laws.TagLaws as library
 use Rattle.liquid_tags.specs.meaning.Counters.{counts_from, past_limit}
-use Rattle.liquid_includes.specs.laws.Hidden.{call_hides, rounds_hidden}
-use Rattle.liquid_cycle.specs.laws.Hidden.{cycles_hide}
-use Rattle.liquid_cycle.specs.meaning.Held.{MarksIn}
+use Rattle.liquid_std.specs.laws.inclusion.Hidden.{call_hides, rounds_hidden}
+use Rattle.liquid_std.specs.laws.marks.Hidden.{cycles_hide}
+use Rattle.liquid_std.specs.meaning.marks.Held.{MarksIn}
 use Rattle.liquid_std.specs.declared.tags.StdTagShape.{StdTagShape}
 use Rattle.liquid_std.specs.declared.tags.StdTagShape.TheVariants.{Library, Decrement, Echo, Cycle, Calls}
 use Rattle.liquid_std.specs.declared.tags.StdTagProgressShape.{StdTagProgressShape}

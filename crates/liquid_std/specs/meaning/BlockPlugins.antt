@@ -4,12 +4,14 @@ use Rattle.liquid_error.specs.meaning.Refusal.{Refusal, located, ok_then}
 use Rattle.liquid_parser.specs.meaning.Handed.{Tokens, expect_identifier, expect_value}
 use Rattle.liquid_parser.specs.meaning.Lang.{Block, BlockMeaning, BlockNames, Body, parts, escaped}
 use Rattle.liquid_tags.specs.meaning.Asked.{alone, next_as}
-use Rattle.liquid_conditions.specs.declared.branches.CaseShape.{CaseShape}
-use Rattle.liquid_conditions.specs.declared.condition.ConditionShape.{ConditionShape}
-use Rattle.liquid_conditions.specs.meaning.ConditionsGiven.{condition_given}
-use Rattle.liquid_conditions.specs.meaning.Values.{values_given}
-use Rattle.liquid_loops.specs.declared.options.LoopBlock.TheVariants as loop
-use Rattle.liquid_loops.specs.meaning.OptionsGiven.{loop_given}
+use Rattle.liquid_std.specs.declared.conditions.branches.CaseShape.{CaseShape}
+use Rattle.liquid_std.specs.declared.conditions.condition.ConditionShape.{ConditionShape}
+use Rattle.liquid_std.specs.declared.conditions.equality.Equality.{Equality}
+use Rattle.liquid_std.specs.meaning.conditions.ConditionsGiven.{condition_given}
+use Rattle.liquid_std.specs.meaning.conditions.Values.{values_given}
+use Rattle.liquid_std.specs.declared.iteration.options.LoopBlock.TheVariants as loop
+use Rattle.liquid_std.specs.declared.iteration.scalars.OverScalar.{OverScalar}
+use Rattle.liquid_std.specs.meaning.iteration.OptionsGiven.{loop_given}
 use Rattle.liquid_std.specs.declared.blocks.StdBlockShape.{StdBlockShape}
 use Rattle.liquid_std.specs.declared.blocks.StdBlockShape.TheVariants as shape
 use Rattle.liquid_std.specs.declared.block_plugins.StdBlocks.{StdBlocks}
@@ -23,10 +25,10 @@ abbrev pub plan_of : StdPlan → StdPlanShape
 plan_of p = record { node = block_of p.node; is_closed = p.is_closed }
 
 abbrev pub start_of : StdBlocks → List ℕ
-start_of If = codes "if"
-start_of Unless = codes "unless"
-start_of Case = codes "case"
-start_of For = codes "for"
+start_of (If equality) = codes "if"
+start_of (Unless equality) = codes "unless"
+start_of (Case equality) = codes "case"
+start_of (For over) = codes "for"
 start_of Tablerow = codes "tablerow"
 start_of Capture = codes "capture"
 start_of Ifchanged = codes "ifchanged"
@@ -34,10 +36,10 @@ start_of Comment = codes "comment"
 start_of Raw = codes "raw"
 
 abbrev pub end_of : StdBlocks → List ℕ
-end_of If = codes "endif"
-end_of Unless = codes "endunless"
-end_of Case = codes "endcase"
-end_of For = codes "endfor"
+end_of (If equality) = codes "endif"
+end_of (Unless equality) = codes "endunless"
+end_of (Case equality) = codes "endcase"
+end_of (For over) = codes "endfor"
 end_of Tablerow = codes "endtablerow"
 end_of Capture = codes "endcapture"
 end_of Ifchanged = codes "endifchanged"
@@ -45,10 +47,10 @@ end_of Comment = codes "endcomment"
 end_of Raw = codes "endraw"
 
 abbrev pub dividers_of : StdBlocks → List (List ℕ)
-dividers_of If = codes "elsif" ∷ codes "else" ∷ []
-dividers_of Unless = codes "elsif" ∷ codes "else" ∷ []
-dividers_of Case = codes "when" ∷ codes "else" ∷ []
-dividers_of For = codes "else" ∷ []
+dividers_of (If equality) = codes "elsif" ∷ codes "else" ∷ []
+dividers_of (Unless equality) = codes "elsif" ∷ codes "else" ∷ []
+dividers_of (Case equality) = codes "when" ∷ codes "else" ∷ []
+dividers_of (For over) = codes "else" ∷ []
 dividers_of Tablerow = []
 dividers_of Capture = []
 dividers_of Ifchanged = []
@@ -56,10 +58,10 @@ dividers_of Comment = []
 dividers_of Raw = []
 
 abbrev pub escapes_of : StdBlocks → Bool
-escapes_of If = false
-escapes_of Unless = false
-escapes_of Case = false
-escapes_of For = false
+escapes_of (If equality) = false
+escapes_of (Unless equality) = false
+escapes_of (Case equality) = false
+escapes_of (For over) = false
 escapes_of Tablerow = false
 escapes_of Capture = false
 escapes_of Ifchanged = false
@@ -80,14 +82,14 @@ abbrev pub condition_planned : (List ConditionShape → StdBlockShape) → Token
 condition_planned block ts = ok_then (condition_given ts) (λ c. Ok (planned (block (c ∷ []))))
 
 -- `case` takes a value
-abbrev pub case_given : Tokens → Result StdPlanShape Refusal
-case_given ts =
+abbrev pub case_given : Equality → Tokens → Result StdPlanShape Refusal
+case_given equality ts =
     ok_then (next_as expect_value ts) (λ value.
-    alone (planned (shape.Case (record { value = value.0; alternatives = [] }))) value.1)
+    alone (planned (shape.Case equality (record { value = value.0; alternatives = [] }))) value.1)
 
 -- `for` and `tablerow` take a loop
-abbrev pub for_given : Tokens → Result StdPlanShape Refusal
-for_given ts = ok_then (loop_given loop.For ts) (λ l. Ok (planned (shape.For l)))
+abbrev pub for_given : OverScalar → Tokens → Result StdPlanShape Refusal
+for_given over ts = ok_then (loop_given loop.For ts) (λ l. Ok (planned (shape.For over l)))
 
 abbrev pub tablerow_given : Tokens → Result StdPlanShape Refusal
 tablerow_given ts = ok_then (loop_given loop.Tablerow ts) (λ l. Ok (planned (shape.Tablerow l)))
@@ -97,10 +99,10 @@ abbrev pub capture_given : Tokens → Result StdPlanShape Refusal
 capture_given ts = ok_then (next_as expect_identifier ts) (λ name. alone (planned (shape.Capture name.0)) name.1)
 
 abbrev pub begun : StdBlocks → Tokens → Result StdPlanShape Refusal
-begun If ts = condition_planned shape.If ts
-begun Unless ts = condition_planned shape.Unless ts
-begun Case ts = case_given ts
-begun For ts = for_given ts
+begun (If equality) ts = condition_planned (shape.If equality) ts
+begun (Unless equality) ts = condition_planned (shape.Unless equality) ts
+begun (Case equality) ts = case_given equality ts
+begun (For over) ts = for_given over ts
 begun Tablerow ts = tablerow_given ts
 begun Capture ts = capture_given ts
 begun Ifchanged ts = alone (planned shape.Ifchanged) ts
@@ -119,9 +121,9 @@ with_alternatives c ts =
 
 -- `elsif` takes a condition, and `when` alternatives; the other blocks have no such dividers
 abbrev pub node_divided : StdBlockShape → Tokens → Result StdBlockShape Refusal
-node_divided (shape.If cs) ts = ok_then (with_condition cs ts) (λ ds. Ok (shape.If ds))
-node_divided (shape.Unless cs) ts = ok_then (with_condition cs ts) (λ ds. Ok (shape.Unless ds))
-node_divided (shape.Case c) ts = ok_then (with_alternatives c ts) (λ d. Ok (shape.Case d))
+node_divided (shape.If equality cs) ts = ok_then (with_condition cs ts) (λ ds. Ok (shape.If equality ds))
+node_divided (shape.Unless equality cs) ts = ok_then (with_condition cs ts) (λ ds. Ok (shape.Unless equality ds))
+node_divided (shape.Case equality c) ts = ok_then (with_alternatives c ts) (λ d. Ok (shape.Case equality d))
 node_divided other ts = alone other ts
 
 -- `else` takes nothing

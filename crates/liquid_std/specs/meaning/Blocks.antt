@@ -8,13 +8,13 @@ use Rattle.liquid_plugins.specs.meaning.Turning.{answers}
 use Rattle.liquid_plugins.specs.meaning.Turns.{TurnShape, text_turn, body_turn, end_turn, Answered, NodeMeaning}
 use Rattle.liquid_tags.specs.declared.for_block.rounds.RoundsShape.{RoundsShape}
 use Rattle.liquid_tags.specs.meaning.Loops.{loop_takes}
-use Rattle.liquid_conditions.specs.meaning.Branches.{case_of, part_case, part_if, part_unless}
-use Rattle.liquid_conditions.specs.meaning.Conditions.{condition_of}
-use Rattle.liquid_loops.specs.declared.tables.TableShape.{TableShape}
-use Rattle.liquid_loops.specs.meaning.Loops.{loop_of, picked_items, rounds_of, rounds_over}
-use Rattle.liquid_loops.specs.meaning.Tables.{table_of, table_over, table_takes}
-use Rattle.liquid_cycle.specs.meaning.Changes.{changes}
-use Rattle.liquid_cycle.specs.meaning.Held.{MarksIn}
+use Rattle.liquid_std.specs.meaning.conditions.Branches.{case_of, part_case, part_if, part_unless}
+use Rattle.liquid_std.specs.meaning.conditions.Conditions.{condition_of}
+use Rattle.liquid_std.specs.declared.iteration.tables.TableShape.{TableShape}
+use Rattle.liquid_std.specs.meaning.iteration.Loops.{loop_of, picked_items, rounds_of, rounds_over}
+use Rattle.liquid_std.specs.meaning.iteration.Tables.{table_of, table_over, table_takes}
+use Rattle.liquid_std.specs.meaning.marks.Changes.{changes}
+use Rattle.liquid_std.specs.meaning.marks.Held.{MarksIn}
 use Rattle.liquid_std.specs.meaning.Captures.{captures, text_of}
 use Rattle.liquid_std.specs.declared.blocks.StdBlock.{StdBlock}
 use Rattle.liquid_std.specs.declared.blocks.StdBlock.TheVariants as block
@@ -27,10 +27,10 @@ use Rattle.liquid_std.specs.declared.blocks.StdProgressShape.TheVariants.{Once, 
 
 -- the shapes of a block and of its progress
 abbrev pub block_of : StdBlock → StdBlockShape
-block_of (block.If cs) = shape.If (map condition_of cs.items)
-block_of (block.Unless cs) = shape.Unless (map condition_of cs.items)
-block_of (block.Case c) = shape.Case (case_of c.value)
-block_of (block.For l) = shape.For (loop_of l.value)
+block_of (block.If equality cs) = shape.If equality (map condition_of cs.items)
+block_of (block.Unless equality cs) = shape.Unless equality (map condition_of cs.items)
+block_of (block.Case equality c) = shape.Case equality (case_of c.value)
+block_of (block.For over l) = shape.For over (loop_of l.value)
 block_of (block.Tablerow l) = shape.Tablerow (loop_of l.value)
 block_of (block.Capture name) = shape.Capture (string_bytes name)
 block_of block.Ifchanged = shape.Ifchanged
@@ -58,10 +58,10 @@ over_table (Some t) = Table t
 
 -- a block's start chooses the part of a condition or a `case`, or takes the items of a loop
 abbrev pub begins_as : {Reg : Type 0} → StdBlockShape → View Reg → Result StdProgressShape Refusal
-begins_as (shape.If cs) v = ok_then (part_if v 0 cs) (λ part. Ok (Once part))
-begins_as (shape.Unless cs) v = ok_then (part_unless v cs) (λ part. Ok (Once part))
-begins_as (shape.Case c) v = ok_then (part_case v c) (λ part. Ok (Once part))
-begins_as (shape.For l) v = ok_then (picked_items v l) (λ ts. Ok (over_items ts))
+begins_as (shape.If equality cs) v = ok_then (part_if equality v 0 cs) (λ part. Ok (Once part))
+begins_as (shape.Unless equality cs) v = ok_then (part_unless equality v cs) (λ part. Ok (Once part))
+begins_as (shape.Case equality c) v = ok_then (part_case equality v c) (λ part. Ok (Once part))
+begins_as (shape.For over l) v = ok_then (picked_items over v l) (λ ts. Ok (over_items ts))
 begins_as (shape.Tablerow l) v = ok_then (table_over v l) (λ t. Ok (over_table t))
 begins_as (shape.Capture name) v = Ok (Capturing None)
 begins_as shape.Ifchanged v = Ok (Capturing None)
@@ -98,7 +98,7 @@ abbrev pub block_takes : {Reg : Type 0} → MarksIn Reg → StdBlockShape → St
     → Answered TurnShape StdProgressShape Reg
 block_takes held (shape.Raw text) p v = answers (Ok (text_turn text)) p v
 block_takes held shape.Comment p v = answers (Ok end_turn) p v
-block_takes held (shape.For l) (Rounds r) v = in_rounds (loop_takes l.name r v)
+block_takes held (shape.For over l) (Rounds r) v = in_rounds (loop_takes l.name r v)
 block_takes held (shape.Tablerow l) (Table t) v = in_table (table_takes l.name t v)
 block_takes held (shape.Capture name) (Capturing text) v = in_capture (captures name text v)
 block_takes held shape.Ifchanged (Capturing text) v = in_capture (changes held text v)

@@ -3,10 +3,10 @@ use Rattle.std.specs.Prelude.{List, [], ◌∷◌, codes, bytes_eq, cond, Option
 use Rattle.liquid_error.specs.meaning.Refusal.{Refusal, ok_then}
 use Rattle.liquid_plugins.specs.meaning.Expression.{ExpressionShape}
 use Rattle.liquid_parser.specs.meaning.Handed.{Token, Tokens, expect_value, next, or_unexpected}
-use Rattle.liquid_conditions.specs.meaning.Values.{values_given}
-use Rattle.liquid_cycle.specs.declared.cycle.CycleShape.{CycleShape}
-use Rattle.liquid_cycle.specs.declared.groups.GroupShape.TheVariants.{Named, Unnamed}
-use Rattle.liquid_cycle.specs.meaning.Groups.{displayed, group_key, unnamed}
+use Rattle.liquid_std.specs.meaning.conditions.Values.{values_given}
+use Rattle.liquid_std.specs.declared.marks.cycle.CycleShape.{CycleShape}
+use Rattle.liquid_std.specs.declared.marks.groups.GroupShape.TheVariants.{Named, Unnamed}
+use Rattle.liquid_std.specs.meaning.marks.Groups.{displayed, group_key, unnamed}
 
 -- the next token and the tokens after a colon, if a colon follows it
 abbrev pub if_colon : Token → Token × Tokens → Option (Token × Tokens)

@@ -9,6 +9,8 @@ use Rattle.liquid_parser.specs.meaning.Lang.{Filters, Lang}
 use Rattle.liquid_parser.specs.meaning.Plugins.{language_of, registry_of}
 use Rattle.liquid_tags.specs.declared.tag_plugins.Tags.TheVariants as library
 use Rattle.liquid_tags.specs.meaning.Languages.{under_names}
+use Rattle.liquid_std.specs.declared.conditions.equality.Equality.TheVariants.{Loose}
+use Rattle.liquid_std.specs.declared.iteration.scalars.OverScalar.TheVariants.{Refused}
 use Rattle.liquid_std.specs.declared.tags.StdTagShape.{StdTagShape}
 use Rattle.liquid_std.specs.declared.blocks.StdBlockShape.{StdBlockShape}
 use Rattle.liquid_std.specs.declared.block_plugins.StdPlanShape.{StdPlanShape}
@@ -26,7 +28,9 @@ the_tags =
     ∷ Library library.Render ∷ Decrement ∷ Echo ∷ Cycle ∷ [])
 
 abbrev pub the_blocks : NameMap StdBlocks
-the_blocks = under_names start_of empty (If ∷ Unless ∷ Case ∷ For ∷ Tablerow ∷ Capture ∷ Ifchanged ∷ Comment ∷ Raw ∷ [])
+the_blocks =
+    under_names start_of empty
+    (If Loose ∷ Unless Loose ∷ Case Loose ∷ For Refused ∷ Tablerow ∷ Capture ∷ Ifchanged ∷ Comment ∷ Raw ∷ [])
 
 -- what a language of such tags and blocks means, by what its filters make of their arguments
 abbrev pub meaning_of : {U F : Type 0} → (U → Arguments → Result F Refusal)

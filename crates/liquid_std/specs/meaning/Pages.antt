@@ -7,8 +7,8 @@ use Rattle.liquid_parser.specs.meaning.Lang.{Filters}
 use Rattle.liquid_template.specs.meaning.Sunk.{Sunk}
 use Rattle.liquid_partials.specs.meaning.Pages as page
 use Rattle.liquid_partials.specs.meaning.Sources.{Texts}
-use Rattle.liquid_cycle.specs.meaning.Held.{marks_alone}
-use Rattle.liquid_cycle.specs.meaning.Marks.{no_marks}
+use Rattle.liquid_std.specs.meaning.marks.Held.{marks_alone}
+use Rattle.liquid_std.specs.meaning.marks.Marks.{no_marks}
 use Rattle.liquid_std.specs.meaning.Languages.{tags_and_blocks}
 use Rattle.liquid_std.specs.meaning.Standard.{standard}
 

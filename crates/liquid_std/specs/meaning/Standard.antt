@@ -3,7 +3,7 @@ use Rattle.std.specs.Prelude.{Option, option_map}
 use Rattle.liquid_plugins.specs.meaning.Chain.{FilterMeaning}
 use Rattle.liquid_template.specs.meaning.Nodes.{Setting}
 use Rattle.liquid_template.specs.meaning.Partials.{Found, partial_in}
-use Rattle.liquid_cycle.specs.meaning.Held.{MarksIn}
+use Rattle.liquid_std.specs.meaning.marks.Held.{MarksIn}
 use Rattle.liquid_std.specs.declared.tags.StdTagShape.{StdTagShape}
 use Rattle.liquid_std.specs.declared.tags.StdTagProgressShape.{StdTagProgressShape}
 use Rattle.liquid_std.specs.declared.blocks.StdBlockShape.{StdBlockShape}

@@ -11,7 +11,7 @@ use Rattle.liquid_tags.specs.declared.tag_plugins.Tags.{Tags}
 use Rattle.liquid_tags.specs.declared.tag_plugins.Tags.TheVariants as named
 use Rattle.liquid_tags.specs.declared.tags.TagShape.TheVariants.{Includes}
 use Rattle.liquid_tags.specs.meaning.TagPlugins as library
-use Rattle.liquid_includes.specs.meaning.CallsGiven.{CallRead, alone as without_value, passing, call_given}
+use Rattle.liquid_std.specs.meaning.inclusion.CallsGiven.{CallRead, alone as without_value, passing, call_given}
 use Rattle.liquid_std.specs.meaning.CyclesGiven.{cycle_given}
 use Rattle.liquid_std.specs.declared.tags.StdTagShape.{StdTagShape}
 use Rattle.liquid_std.specs.declared.tags.StdTagShape.TheVariants.{Library, Decrement, Echo, Cycle, Calls}

@@ -17,11 +17,11 @@ use Rattle.liquid_std.specs.declared.tags.StdTagProgress.{StdTagProgress}
 use Rattle.liquid_std.specs.declared.tags.StdTagProgress.TheVariants as progress
 use Rattle.liquid_std.specs.declared.tags.StdTagProgressShape.{StdTagProgressShape}
 use Rattle.liquid_std.specs.declared.tags.StdTagProgressShape.TheVariants.{Turns, Rounds}
-use Rattle.liquid_includes.specs.declared.rounds.CallRoundsShape.{CallRoundsShape}
-use Rattle.liquid_includes.specs.meaning.Calls.{call_of}
-use Rattle.liquid_includes.specs.meaning.Rounds.{call_rounds, call_takes, rounds_of}
-use Rattle.liquid_cycle.specs.meaning.Cycles.{cycle_of, cycles}
-use Rattle.liquid_cycle.specs.meaning.Held.{MarksIn}
+use Rattle.liquid_std.specs.declared.inclusion.rounds.CallRoundsShape.{CallRoundsShape}
+use Rattle.liquid_std.specs.meaning.inclusion.Calls.{call_of}
+use Rattle.liquid_std.specs.meaning.inclusion.Rounds.{call_rounds, call_takes, rounds_of}
+use Rattle.liquid_std.specs.meaning.marks.Cycles.{cycle_of, cycles}
+use Rattle.liquid_std.specs.meaning.marks.Held.{MarksIn}
 use Rattle.liquid_std.specs.meaning.Decrement.{decrements}
 use Rattle.liquid_std.specs.meaning.Isolated.{library_turn}
 

@@ -10,7 +10,7 @@ use Rattle.liquid_template.specs.meaning.Rendering.{template_run}
 use Rattle.liquid_tags.specs.declared.blocks.BlockShape.{BlockShape}
 use Rattle.liquid_tags.specs.declared.tags.TagShape.{TagShape}
 use Rattle.liquid_tags.specs.meaning.Languages as library
-use Rattle.liquid_cycle.specs.meaning.Held.{MarksIn}
+use Rattle.liquid_std.specs.meaning.marks.Held.{MarksIn}
 use Rattle.liquid_std.specs.declared.blocks.StdBlockShape.{StdBlockShape}
 use Rattle.liquid_std.specs.declared.tags.StdTagShape.{StdTagShape}
 use Rattle.liquid_std.specs.meaning.Languages.{tags_and_blocks}

@@ -19,11 +19,13 @@ use Rattle.liquid_tags.specs.declared.blocks.BlockShape.TheVariants as library
 use Rattle.liquid_tags.specs.declared.if_block.condition.ConditionShape.{ConditionShape}
 use Rattle.liquid_tags.specs.declared.if_block.condition.ConditionShape.TheVariants as condition
 use Rattle.liquid_tags.specs.declared.tags.TagShape.{TagShape}
-use Rattle.liquid_conditions.specs.declared.condition.ConditionShape as standard
-use Rattle.liquid_conditions.specs.declared.condition.Operator.TheVariants.{Compares}
-use Rattle.liquid_conditions.specs.declared.condition.TestShape.TheVariants.{Holds, Passes}
-use Rattle.liquid_conditions.specs.meaning.ConditionsGiven.{of_test}
-use Rattle.liquid_loops.specs.meaning.OptionsGiven.{no_options}
+use Rattle.liquid_std.specs.declared.conditions.condition.ConditionShape as standard
+use Rattle.liquid_std.specs.declared.conditions.condition.Operator.TheVariants.{Compares}
+use Rattle.liquid_std.specs.declared.conditions.condition.TestShape.TheVariants.{Holds, Passes}
+use Rattle.liquid_std.specs.declared.conditions.equality.Equality.TheVariants.{Loose}
+use Rattle.liquid_std.specs.meaning.conditions.ConditionsGiven.{of_test}
+use Rattle.liquid_std.specs.declared.iteration.scalars.OverScalar.TheVariants.{Refused}
+use Rattle.liquid_std.specs.meaning.iteration.OptionsGiven.{no_options}
 use Rattle.liquid_std.specs.declared.blocks.StdBlockShape.{StdBlockShape}
 use Rattle.liquid_std.specs.declared.blocks.StdBlockShape.TheVariants.{If, For, Raw}
 use Rattle.liquid_std.specs.declared.tags.StdTagShape.{StdTagShape}
@@ -36,8 +38,8 @@ condition_image (condition.Compares l op r) = of_test (Passes l (Compares op) r)
 
 -- a block with the same conditions, or the same series and no options, or the same text
 abbrev pub block_image : BlockShape → StdBlockShape
-block_image (library.If cs) = If (map condition_image cs)
-block_image (library.For name s) = For (record { name = name; series = s; options = no_options })
+block_image (library.If cs) = If Loose (map condition_image cs)
+block_image (library.For name s) = For Refused (record { name = name; series = s; options = no_options })
 block_image (library.Raw text) = Raw text
 
 module _ {F : Type 0} where

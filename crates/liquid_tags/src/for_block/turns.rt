@@ -13,7 +13,7 @@ use std::alloc::{AllocError, Global};
 use std::mem;
 
 /// Returns a turn of the loop with this name.
-#[inline(never)]
+#[inline(always)]
 pub(crate) fn loop_turn<R: Runtime>(
     alloc: Global,
     name: &String,

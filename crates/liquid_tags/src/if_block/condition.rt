@@ -45,7 +45,7 @@ impl Meant for Condition {
 }
 
 /// Returns the place of the first condition that holds, or the place after them all if none does.
-#[inline(never)]
+#[inline(always)]
 pub(crate) fn choose_part<R: Runtime>(
     alloc: Global,
     conditions: &[Condition],

@@ -28,7 +28,7 @@ pub struct Call {
 }
 
 /// Returns the turn with the partial of the call.
-#[inline(never)]
+#[inline(always)]
 pub(crate) fn include<R: Runtime>(
     alloc: Global,
     inclusion: Inclusion,

@@ -5,8 +5,8 @@ use Rattle.liquid_runtime.specs.meaning.Frames.{stack_frame}
 use Rattle.liquid_template.specs.meaning.Actions.{asks, and_then, writes, under}
 use Rattle.liquid_template.specs.meaning.Run.{Action}
 use Rattle.liquid_tags.specs.laws.LoopRuns.{cleared, leaves}
-use Rattle.liquid_loops.specs.meaning.Cells.{tablerowloop, text_between}
-use Rattle.liquid_loops.specs.meaning.Tables.{names_of_cell}
+use Rattle.liquid_std.specs.meaning.iteration.Cells.{tablerowloop, text_between}
+use Rattle.liquid_std.specs.meaning.iteration.Tables.{names_of_cell}
 
 module _ {Reg : Type 0} (fresh : Reg) (name : List ℕ) (size columns : ℕ) (body : Action Reg) where
   -- the body of the item at a place, under the frame of its cell

@@ -6,12 +6,13 @@ use Rattle.liquid_plugins.specs.meaning.Chain.{FilterMeaning}
 use Rattle.liquid_plugins.specs.meaning.Nodes.{Parts}
 use Rattle.liquid_template.specs.meaning.Partials.{Found}
 use Rattle.liquid_template.specs.meaning.Runs.{block_run, part_run}
-use Rattle.liquid_loops.specs.declared.loops.LoopShape.{LoopShape}
-use Rattle.liquid_loops.specs.meaning.Loops.{picked_items}
-use Rattle.liquid_loops.specs.meaning.Options.{option_number}
-use Rattle.liquid_loops.specs.meaning.Picked.{natural}
-use Rattle.liquid_loops.specs.meaning.Tables.{is_over_nil}
-use Rattle.liquid_cycle.specs.meaning.Held.{MarksIn}
+use Rattle.liquid_std.specs.declared.iteration.loops.LoopShape.{LoopShape}
+use Rattle.liquid_std.specs.declared.iteration.scalars.OverScalar.TheVariants.{Refused}
+use Rattle.liquid_std.specs.meaning.iteration.Loops.{picked_items}
+use Rattle.liquid_std.specs.meaning.iteration.Options.{option_number}
+use Rattle.liquid_std.specs.meaning.iteration.Picked.{natural}
+use Rattle.liquid_std.specs.meaning.iteration.Tables.{is_over_nil}
+use Rattle.liquid_std.specs.meaning.marks.Held.{MarksIn}
 use Rattle.liquid_std.specs.declared.blocks.StdBlockShape.{StdBlockShape}
 use Rattle.liquid_std.specs.declared.blocks.StdBlockShape.TheVariants.{Tablerow}
 use Rattle.liquid_std.specs.declared.tags.StdTagShape.{StdTagShape}
@@ -29,7 +30,7 @@ RowsExist A = (columns : ℕ) (cells : List A) → (rows : List (List A)) × Are
 -- a table goes over these items, in this number of columns, which is 0 if it has one row
 abbrev pub GoesOver : {Reg : Type 0} → View Reg → LoopShape → List Tree → ℕ → Type 0
 GoesOver v l ts columns =
-    (is_over_nil v l.series ≡ Ok false) × (picked_items v l ≡ Ok ts)
+    (is_over_nil v l.series ≡ Ok false) × (picked_items Refused v l ≡ Ok ts)
     × ((cols : Option ℤ) × (option_number v l.options.cols ≡ Ok cols) × (natural (unwrap_or cols (pos 0)) ≡ columns))
 
 module _ {Reg F : Type 0} (held : MarksIn Reg) (fresh : Reg) (m : FilterMeaning F) where

@@ -1,6 +1,6 @@
 -- The text of a table: its rows, and their cells.
 use Rattle.std.specs.Prelude.{◌≡◌, ℕ, ◌+◌, ◌==◌, ◌<◌, ◌≤◌, ◌⊎◌, List, [], ◌∷◌, ◌++◌, codes, cond, length}
-use Rattle.liquid_loops.specs.meaning.Cells.{opens_row, opens_cell, closes_row}
+use Rattle.liquid_std.specs.meaning.iteration.Cells.{opens_row, opens_cell, closes_row}
 
 -- the text of a cell in a column: its body between its tags
 abbrev pub cell_text : ℕ → List ℕ → List ℕ

@@ -4,7 +4,7 @@ use Rattle.liquid_error.specs.meaning.Refusal.{Refusal, ok_then}
 use Rattle.liquid_parser.specs.meaning.Handed.{Tokens}
 use Rattle.liquid_filters.specs.declared.call.CallShape.{CallShape}
 use Rattle.liquid_filters.specs.meaning.Calls.{call_made}
-use Rattle.tag_arguments.specs.meaning.Arguments.{arguments_given}
+use Rattle.liquid_extend.specs.meaning.Arguments.{arguments_given}
 use Rattle.text_tags.specs.declared.kind.TagAnswer.{TagAnswer}
 use Rattle.text_tags.specs.meaning.Sense.{TextTagSense, answer_sense}
 

@@ -7,9 +7,9 @@ use crate::rows::pages::{page, seen_over};
 use crate::rows::row::Row;
 use liquid_core::parser::{Language, NoPlugin, ParseBlock, ParseFilter, ParseTag};
 use liquid_core::runtime::Renderable;
+use liquid_extend::TextBlockPlugin;
 use std::alloc::Global;
 use test_calls::Twice;
-use text_blocks::TextBlockPlugin;
 
 type Capturing = Language<NoPlugin, NoPlugin, TextBlockPlugin<Twice>>;
 

@@ -1,10 +1,10 @@
 //! Rows of the filters on lists.
 use super::answers::Call;
-use filter_lists::choices::{compact, keep_where, map, uniq};
-use filter_lists::lists::{concat, first, join, last, reverse};
-use filter_lists::searches::{find, find_index, has, reject};
-use filter_lists::sums::sum;
 use liquid_error::Error;
+use liquid_filters::list::choices::{compact, keep_where, map, uniq};
+use liquid_filters::list::lists::{concat, first, join, last, reverse};
+use liquid_filters::list::searches::{find, find_index, has, reject};
+use liquid_filters::list::sums::sum;
 use liquid_value::{Value, ValueCow};
 use rows::{Line, rows_hold};
 use std::alloc::Global;

@@ -1,9 +1,9 @@
 //! Long inputs have their answers, and memory doesn't run out.
-use filter_lists::sums::sum;
-use filter_sorting::order::sort;
-use filter_strings::truncatewords;
-use liquid_conditions::contains;
 use liquid_error::Error;
+use liquid_filters::list::sums::sum;
+use liquid_filters::sort::order::sort;
+use liquid_filters::string::truncatewords;
+use liquid_std::conditions::contains;
 use liquid_value::{Array, SharedArray, Value, ValueCow};
 use rows::holds;
 use std::alloc::{AllocError, Global};

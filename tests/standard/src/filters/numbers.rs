@@ -1,10 +1,12 @@
 //! Rows of the filters on numbers.
 use super::answers::Call;
-use filter_numbers::arithmetic::{at_least, at_most, divided_by, minus, modulo, plus, times};
-use filter_numbers::single::{abs, ceil, floor, round};
-use filter_numbers::units::{from_minor, to_minor, written_decimal};
 use liquid_decimals::Decimal;
 use liquid_error::Error;
+use liquid_filters::number::arithmetic::{
+    at_least, at_most, divided_by, minus, modulo, plus, times,
+};
+use liquid_filters::number::single::{abs, ceil, floor, round};
+use liquid_filters::number::units::{from_minor, to_minor, written_decimal};
 use liquid_value::{Value, ValueCow};
 use rows::{Line, is_text, rows_hold};
 use std::alloc::Global;

@@ -1,8 +1,8 @@
 //! Rows of the filters that put a list in order.
 use super::answers::Call;
-use filter_sorting::numbers::sort_numeric;
-use filter_sorting::order::{sort, sort_natural};
 use liquid_error::Error;
+use liquid_filters::sort::numbers::sort_numeric;
+use liquid_filters::sort::order::{sort, sort_natural};
 use liquid_value::{Value, ValueCow};
 use rows::{Line, rows_hold};
 use std::alloc::Global;

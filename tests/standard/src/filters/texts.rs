@@ -1,12 +1,12 @@
 //! Rows of the filters on texts.
 use super::answers::Call;
-use filter_strings::{
+use liquid_error::Error;
+use liquid_filters::string::{
     append, base64_decode, base64_encode, base64_url_safe_decode, base64_url_safe_encode,
     capitalize, downcase, escape, escape_once, lstrip, newline_to_br, prepend, remove,
     remove_first, remove_last, replace, replace_first, replace_last, rstrip, slice, split, strip,
     strip_html, strip_newlines, truncate, truncatewords, upcase, url_decode, url_encode,
 };
-use liquid_error::Error;
 use liquid_value::{Value, ValueCow};
 use rows::{Line, rows_hold};
 use std::alloc::Global;

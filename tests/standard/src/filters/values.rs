@@ -1,7 +1,7 @@
 //! Items, numbers and parts of values.
-use filter_values::items::items;
-use filter_values::numbers::{number, whole};
-use filter_values::parts::{is_truthy, property, size_of};
+use liquid_filters::value::items::items;
+use liquid_filters::value::numbers::{number, whole};
+use liquid_filters::value::parts::{is_truthy, property, size_of};
 use liquid_value::Value;
 use rows::holds;
 use std::alloc::{AllocError, Global};

@@ -3,7 +3,7 @@ use Rattle.liquid_parser.specs.meaning.Cursors.{bytes_left}
 use Rattle.liquid_parser.specs.meaning.Handed.{Tokens}
 use Rattle.liquid_parser.specs.meaning.Plugins.{AreTokens}
 use Rattle.jekyll_tags.specs.meaning.Given.{pairs_from}
-use Rattle.liquid_includes.specs.meaning.CallsGiven.{pairs_of}
+use Rattle.liquid_std.specs.meaning.inclusion.CallsGiven.{pairs_of}
 use Rattle.jekyll_tags.proofs.PairLemmas.{read_on}
 use Rattle.jekyll_tags.proofs.reading.read_pairs.Given as goal
 

@@ -1,5 +1,5 @@
 use Rattle.std.proofs.Common.{◌≡◌, drop, map}
-use Rattle.beside.specs.declared.one_of.Beside.TheVariants.{Library}
+use Rattle.liquid_extend.specs.declared.beside.one_of.Beside.TheVariants.{Library}
 use Rattle.liquid_tags.specs.meaning.Languages.{under_names}
 use Rattle.liquid_beside.specs.meaning.Languages.{own_tag}
 use Rattle.liquid_beside.proofs.languages.add_standard_tags.Given as goal

@@ -7,7 +7,7 @@ pub returns-in-Ok : goal.returns-in-Ok
 returns-in-Ok c =
     with_moment c.args.page.now c.in-Ok.now c.language_at.result (search rules)
     (given c.args.page.now c.given_moment.result _ c.in-Ok.is c.given_moment.ensures)
-    (subst (λ standard. IsChosenAt c.in-Ok.now standard c.language_at.result) c.has_bit.ensures c.language_at.ensures)
+    (subst (λ dialect. IsChosenAt c.in-Ok.now dialect c.language_at.result) c.dialect_of.ensures c.language_at.ensures)
 
 pub returns-in-Err-NoMoment : goal.returns-in-Err-NoMoment
 returns-in-Err-NoMoment c = (

@@ -1,12 +1,12 @@
 use Rattle.std.proofs.Common.{refl, inl}
-use Rattle.liquid_c.proofs.AskedLemmas.{memory_asked, momentless_asked, none_asked, plain_asked, standard_asked}
+use Rattle.liquid_c.proofs.AskedLemmas.{jekyll_asked, memory_asked, momentless_asked, none_asked, plain_asked, standard_asked}
 use Rattle.liquid_c.proofs.LeavesLemmas.{nothing_left}
 use Rattle.liquid_c.proofs.rendering.render.Goals as goal
 
 pub returns-in-NoOptions : goal.returns-in-NoOptions
 returns-in-NoOptions c =
     none_asked c.args.page.now c.args.page.now.globals.now _ _ _ c.choose_language.result c.choose_language.ensures c.in-NoOptions.is
-    (c.refused.ensures, refl)
+    (c.refusal.ensures, refl)
 
 pub returns-in-NoMoment : goal.returns-in-NoMoment
 returns-in-NoMoment c =
@@ -16,7 +16,7 @@ returns-in-NoMoment c =
 pub returns-in-NoMemory : goal.returns-in-NoMemory
 returns-in-NoMemory c =
     memory_asked c.args.page.now c.args.page.now.globals.now _ _ _ c.choose_language.result c.choose_language.ensures c.in-NoMemory.is
-    c.refused-in-NoMemory.ensures refl (λ page. nothing_left page _ _ _ c.refused-in-NoMemory.ensures refl)
+    c.refusal-in-NoMemory.ensures refl (λ page. nothing_left page _ _ _ c.refusal-in-NoMemory.ensures refl)
 
 pub returns-in-Plain : goal.returns-in-Plain
 returns-in-Plain c =
@@ -27,3 +27,8 @@ pub returns-in-Standard : goal.returns-in-Standard
 returns-in-Standard c =
     standard_asked c.args.page.now c.args.page.now.globals.now _ _ _ c.choose_language.result c.choose_language.ensures _ c.in-Standard.is
     c.render_in-in-Standard.ensures
+
+pub returns-in-Jekyll : goal.returns-in-Jekyll
+returns-in-Jekyll c =
+    jekyll_asked c.args.page.now c.args.page.now.globals.now _ _ _ c.choose_language.result c.choose_language.ensures _ c.in-Jekyll.is
+    c.render_jekyll.ensures

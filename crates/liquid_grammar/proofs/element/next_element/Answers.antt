@@ -12,11 +12,11 @@ returns-then-is_empty-clause-only c = λ rest e m.
     absurd (omega (arith, empty, some))
 
 pub returns-then-is_empty-2-clause-only : goal.returns-then-is_empty-2-clause-only
-returns-then-is_empty-2-clause-only c = λ rest e m. only_element _ _ c.marked.result.0 c.marked.ensures.0 c.marked.ensures.1
-    c.marked.ensures.2 rest e m
+returns-then-is_empty-2-clause-only c = λ rest e m. only_element _ _ c.opener_element.result.0 c.opener_element.ensures.0 c.opener_element.ensures.1
+    c.opener_element.ensures.2 rest e m
 
 pub returns-then-is_empty-2-clause-shorter : goal.returns-then-is_empty-2-clause-shorter
-returns-then-is_empty-2-clause-shorter c = element_some _ _ c.marked.ensures.0 c.marked.ensures.1
+returns-then-is_empty-2-clause-shorter c = element_some _ _ c.opener_element.ensures.0 c.opener_element.ensures.1
 
 found_raw : (c : goal.After-rest-else-is_empty-2-1) → IsElement c.args.text.now c.split_at.result.1.now (raw c.split_at.result.0.now)
 found_raw c =

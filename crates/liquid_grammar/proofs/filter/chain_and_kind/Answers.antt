@@ -14,10 +14,10 @@ returns-in_err-kind-clause-value c = nothing_scan chain_fault (chain_of c.args.s
     (no_chain_scan c.args.s.now c.in_err-kind.ensures.value)
 
 pub returns-then-begins_filter-clause-kind : goal.returns-then-begins_filter-clause-kind
-returns-then-begins_filter-clause-kind c = c.filtered.ensures.kind c.args.s.now c.in_ok-kind.ensures.kind
+returns-then-begins_filter-clause-kind c = c.match_filters.ensures.kind c.args.s.now c.in_ok-kind.ensures.kind
 
 pub returns-then-begins_filter-clause-value : goal.returns-then-begins_filter-clause-value
-returns-then-begins_filter-clause-value c = c.filtered.ensures.value c.args.s.now c.in_ok-kind.ensures.value
+returns-then-begins_filter-clause-value c = c.match_filters.ensures.value c.args.s.now c.in_ok-kind.ensures.value
 
 pub returns-else-begins_filter-clause-kind : goal.returns-else-begins_filter-clause-kind
 returns-else-begins_filter-clause-kind c =

@@ -12,12 +12,12 @@ use Rattle.liquid_grammar.proofs.IndexPartLemmas.{
 use Rattle.liquid_grammar.proofs.FirstByteLemmas.{first_byte, no_index_begins}
 use Rattle.liquid_grammar.proofs.parts.next_index.Goals as goal
 
-pub returns-in_err-bracketed-in-None-clause-only :
-    goal.returns-in_err-bracketed-in-None-clause-only
-returns-in_err-bracketed-in-None-clause-only c rest is m inside =
+pub returns-in_err-match_bracket-in-None-clause-only :
+    goal.returns-in_err-match_bracket-in-None-clause-only
+returns-in_err-match_bracket-in-None-clause-only c rest is m inside =
     returned_none _ _ c.from_residual.ensures
     (none_left c.args.s.now rest is m (unmatched_brackets c.args.s.now c.in-None.ensures.value
-    c.in_err-bracketed-in-None.ensures.value))
+    c.in_err-match_bracket-in-None.ensures.value))
 
 pub returns-in_err-open_bracket-in-None-2-clause-only :
     goal.returns-in_err-open_bracket-in-None-2-clause-only
@@ -32,7 +32,7 @@ pub returns-in_ok-open_bracket-in-None-clause-only :
     goal.returns-in_ok-open_bracket-in-None-clause-only
 returns-in_ok-open_bracket-in-None-clause-only c rest is m inside =
     bracket_first c.args.s.now rest _ is c.in-None.ensures.value c.in_ok-open_bracket-in-None.ensures.value
-    (some_left c.args.s.now rest is (index_begins c.args.s.now _ c.in-None.ensures.value c.in_ok-bracketed-in-None.ensures.value) m)
+    (some_left c.args.s.now rest is (index_begins c.args.s.now _ c.in-None.ensures.value c.in_ok-match_bracket-in-None.ensures.value) m)
     m
 
 pub returns-in_ok-open_bracket-in-None-2-clause-only :

@@ -33,14 +33,14 @@ pub returns-then-begins_index-clause-kind : goal.returns-then-begins_index-claus
 returns-then-begins_index-clause-kind c =
     let head = c.in_ok-literal in
     let name = c.in-Name-default in
-    c.indexed.ensures.kind c.args.s.now (no_literal_found c.args.s.now head.field-0 name.name name.is-0 head.ensures.literal)
+    c.match_indexes.ensures.kind c.args.s.now (no_literal_found c.args.s.now head.field-0 name.name name.is-0 head.ensures.literal)
     (name_found c.args.s.now head.field-0 name.name name.is-0 head.ensures.name)
 
 pub returns-then-begins_index-clause-value : goal.returns-then-begins_index-clause-value
 returns-then-begins_index-clause-value c =
     let head = c.in_ok-literal in
     let name = c.in-Name-default in
-    c.indexed.ensures.value c.args.s.now (no_literal_found c.args.s.now head.field-0 name.name name.is-0 head.ensures.literal)
+    c.match_indexes.ensures.value c.args.s.now (no_literal_found c.args.s.now head.field-0 name.name name.is-0 head.ensures.literal)
     (name_found c.args.s.now head.field-0 name.name name.is-0 head.ensures.name)
 
 pub returns-else-begins_index-clause-kind : goal.returns-else-begins_index-clause-kind

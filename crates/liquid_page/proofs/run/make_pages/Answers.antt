@@ -21,7 +21,7 @@ returns-in-Err-clause-requests g c =
 pub returns-clause-ends : goal.returns-clause-ends
 returns-clause-ends g c =
     let shared : texts_in c.in-Ok.partials.value ≡ texts_in c.args.given.now.site.partials.value = search rules in
-    inl (subst (λ (texts : Texts). Ends (Answered
+    inl (subst (λ (texts : Texts). Ends (Answered g.R.Rewrite.rewritten
     (setting g.V.Fresh.fresh g.F.Filter.Filter.means g.T.Node.Renderable.means g.B.Node.Renderable.means)
     (language_of g.F.ParseFilter.makes g.T.ParseTag.gives g.B.ParseBlock.block c.args.language.value) c.args.request.now.options texts)
     (site_of c.args.given.now) (g.D.Folder.known c.args.files.now) (g.D.Folder.known c.finish.new.files)

@@ -19,7 +19,7 @@ returns-in-Ok-clause-pages g c = λ all folders known listed.
     let words = words_of c.args.request.now in
     let read = c.gather.ensures.given all folders known listed in
     let given : IsGiven all folders words (site_of c.in-Ok.given) = search rules in
-    let answers = Answered
+    let answers = Answered g.R.Rewrite.rewritten
     (setting g.V.Fresh.fresh g.F.Filter.Filter.means g.T.Node.Renderable.means g.B.Node.Renderable.means)
     (language_of g.F.ParseFilter.makes g.T.ParseTag.gives g.B.ParseBlock.block c.args.language.value) c.args.request.now.options in
     pages_made answers all folders words (site_of c.in-Ok.given) (texts_in c.in-Ok.given.site.partials.value)

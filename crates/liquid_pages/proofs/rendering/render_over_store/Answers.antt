@@ -14,10 +14,10 @@ pub returns-in-Sandboxed-clause-renders : goal.returns-in-Sandboxed-clause-rende
 returns-in-Sandboxed-clause-renders g c = λ l partials is_found.
     answer_over _ l c.args.options Sandboxed _ _ _ _ _ _ _ partials _ _ _ c.in-Sandboxed.is c.room_of-room.ensures
     c.render_sandboxed_in_room-answer.ensures.renders (ap (option_map _) c.runtime_of-runtime-in-Sandboxed.ensures.store)
-    (c.runtime_of-runtime-in-Sandboxed.ensures.view ∙ ap (built_over _ c.args.options.lenient) c.no_names.ensures) is_found
+    (c.runtime_of-runtime-in-Sandboxed.ensures.view ∙ ap (built_over _ c.args.options.leniency) c.no_names.ensures) is_found
 
 pub returns-in-Isolated-clause-renders : goal.returns-in-Isolated-clause-renders
 returns-in-Isolated-clause-renders g c = λ l partials is_found.
     answer_over _ l c.args.options Isolated _ _ _ _ _ _ _ partials _ _ _ c.in-Isolated.is c.room_of-room.ensures
     c.render_isolated_in_room-answer.ensures.renders (ap (option_map _) c.runtime_of-runtime-in-Isolated.ensures.store)
-    (c.runtime_of-runtime-in-Isolated.ensures.view ∙ ap (built_over _ c.args.options.lenient) c.no_names-in-Isolated.ensures) is_found
+    (c.runtime_of-runtime-in-Isolated.ensures.view ∙ ap (built_over _ c.args.options.leniency) c.no_names-in-Isolated.ensures) is_found

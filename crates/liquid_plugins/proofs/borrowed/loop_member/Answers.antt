@@ -1,4 +1,4 @@
-use Rattle.std.proofs.Common.{◌≡◌, Some, ap, ◌∙◌}
+use Rattle.std.proofs.Common.{ap, ◌∙◌}
 use Rattle.liquid_runtime.specs.meaning.LoopNames.{forloop}
 use Rattle.liquid_value.specs.meaning.View.{view}
 use Rattle.liquid_plugins.specs.meaning.ExpressionOf.{expressions_of}

@@ -1,7 +1,5 @@
-use Rattle.std.proofs.Common.{◌≡◌, Some, sym, ap, ◌∙◌, inr}
-use Rattle.std.specs.Prelude.{option_map}
+use Rattle.std.proofs.Common.{sym, inr}
 use Rattle.liquid_paths.specs.meaning.PathOf.{indexes_of}
-use Rattle.liquid_value.specs.meaning.View.{view}
 use Rattle.liquid_runtime.proofs.runtime.find_seen.Goals as goal
 
 pub returns-in-Some-clause-in_place : goal.returns-in-Some-clause-in_place

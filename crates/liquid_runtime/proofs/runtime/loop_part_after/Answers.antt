@@ -1,4 +1,4 @@
-use Rattle.std.proofs.Common.{◌≡◌, Ok, take, drop, sym, ap, ◌∙◌}
+use Rattle.std.proofs.Common.{Ok, take, drop, sym, ap, ◌∙◌}
 use Rattle.liquid_paths.specs.meaning.PathOf.{indexes_of}
 use Rattle.liquid_paths.specs.meaning.Walk.{find_after}
 use Rattle.liquid_runtime.proofs.LoopLaws.{leads_from}

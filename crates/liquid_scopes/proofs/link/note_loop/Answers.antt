@@ -1,4 +1,4 @@
-use Rattle.std.proofs.Common.{◌≡◌, codes, string_bytes, bytes_eq, ap, sym, ◌∙◌}
+use Rattle.std.proofs.Common.{codes, string_bytes, bytes_eq, ap, ◌∙◌}
 use Rattle.std.specs.Prelude.{is_some, nat_eq, ◌&&◌, ◌||◌}
 use Rattle.std.specs.FinMap.{get}
 use Rattle.std.proofs.lemmas.Result.{on_ok_weaker}

@@ -1,6 +1,6 @@
 use Rattle.std.proofs.Common.{sym, subst}
 use Rattle.liquid_error.specs.meaning.Told.{Gives}
-use Rattle.liquid_cycle.specs.meaning.Cycles.{cycle_of}
+use Rattle.liquid_std.specs.meaning.marks.Cycles.{cycle_of}
 use Rattle.liquid_std.specs.meaning.CyclesGiven.{given_after}
 use Rattle.liquid_std.proofs.cycle.read_cycle.Goals as goal
 

@@ -12,8 +12,8 @@ invariant-loop-name g l = record {
   same : g.F.Folder.known l.files ≡ g.F.Folder.known l.fn.files;
   listed : g.F.Folder.listed l.files ≡ g.F.Folder.listed l.fn.files;
   partials : (all : List ℕ → Option (List ℕ)) → g.F.Folder.known l.fn.files ≡ known_in all → (name : List ℕ)
-      → option_or (partial_in all l.fn.folder (map string_bytes l.name-iterator.rest.items) name) (partial_text l.partials name)
-      ≡ partial_in all l.fn.folder (map string_bytes l.fn.names.items) name;
+      → option_or (partial_in l.fn.called all l.fn.folder (map string_bytes l.name-iterator.rest.items) name) (partial_text l.partials name)
+      ≡ partial_in l.fn.called all l.fn.folder (map string_bytes l.fn.names.items) name;
   requests : Reaching (map (λ name. reading (file_in l.fn.folder name)) (map string_bytes l.fn.names.items))
       (map (λ name. reading (file_in l.fn.folder name)) (map string_bytes l.name-iterator.rest.items))
       (g.F.Folder.requests l.fn.files) (g.F.Folder.requests l.files);

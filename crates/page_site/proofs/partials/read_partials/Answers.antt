@@ -12,7 +12,7 @@ use Rattle.page_site.proofs.partials.read_partials.Goals as goal
 pub returns-in-Ok-clause-partials : goal.returns-in-Ok-clause-partials
 returns-in-Ok-clause-partials g c = λ all folders known listed.
     let folder = c.args.folder.now in
-    partials_listed c.read_each.result all folder (map string_bytes c.in-Ok.names.items) (folders true folder)
+    partials_listed c.read_each.result c.args.called all folder (map string_bytes c.in-Ok.names.items) (folders true folder)
     (listed_names (λ names. map string_bytes names.items) (folders true folder) c.in-Ok.names
     (subst (λ (f : Bool → List ℕ → Option (Option (List (List ℕ)))). Reads (λ names. map string_bytes names.items) (f true folder) (Ok c.in-Ok.names))
     listed c.in-Ok.ensures.lists))

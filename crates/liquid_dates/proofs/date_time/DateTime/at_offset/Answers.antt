@@ -7,12 +7,12 @@ pub returns-in-Ok-clause-succeeds : goal.returns-in-Ok-clause-succeeds
 returns-in-Ok-clause-succeeds c =
     let fits = c.in-Ok.ensures.succeeds.0 refl in (
       λ _. (
-        omega (arith, signed_arith, fits.0, c.shifted-local.ensures.value),
-        omega (arith, signed_arith, fits.1, c.shifted-local.ensures.value),
+        omega (arith, signed_arith, fits.0, c.shift-local.ensures.value),
+        omega (arith, signed_arith, fits.1, c.shift-local.ensures.value),
       ),
       λ _. refl,
     )
 
 pub returns-in-Ok-clause-instant : goal.returns-in-Ok-clause-instant
 returns-in-Ok-clause-instant c =
-    rw instant_is (omega (arith, signed_arith, c.in-Ok.ensures.value, c.shifted-local.ensures.value))
+    rw instant_is (omega (arith, signed_arith, c.in-Ok.ensures.value, c.shift-local.ensures.value))

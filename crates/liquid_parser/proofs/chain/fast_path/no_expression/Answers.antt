@@ -6,5 +6,5 @@ use Rattle.liquid_parser.proofs.chain.fast_path.no_expression.Goals as goal
 
 pub returns : goal.returns
 returns c following is =
-    subst (λ place. IfSome (told c.refused_at.result) (λ r. r ≡ refused_at c.args.source.now (codes "Invalid liquid") place)) is
-    c.refused_at.ensures
+    subst (λ place. IfSome (told c.error_at.result) (λ r. r ≡ refused_at c.args.source.now (codes "Invalid liquid") place)) is
+    c.error_at.ensures

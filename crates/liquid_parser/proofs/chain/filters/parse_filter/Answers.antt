@@ -15,7 +15,7 @@ returns-in-None-clause-value g c rest f is here fine =
     subst (λ n. option_map g.F.ParseFilter.makes (get c.args.registry.now n) ≡ None) (sym is.name_is)
     (sym (ap (option_map g.F.ParseFilter.makes) c.in-None.ensures)) in
     err_now _ _ _ (ap (λ o. filter_or (registry_of g.F.ParseFilter.makes c.args.registry.now) c.args.source.now o f) none)
-    (c.unknown_filter.ensures f is.place_is is.name_is)
+    (c.unknown_filter_error.ensures f is.place_is is.name_is)
 
 pub returns-in-Ok-clause-value : goal.returns-in-Ok-clause-value
 returns-in-Ok-clause-value g c rest f is here fine =

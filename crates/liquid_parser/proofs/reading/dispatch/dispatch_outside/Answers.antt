@@ -69,4 +69,4 @@ returns-in-None-get g c source t h =
     err_now _ _ _ (unknown_outer (language_of g.F.ParseFilter.makes g.T.ParseTag.gives g.B.ParseBlock.block c.args.language.now) source
     c.args.outside t (blocks_view g.F.Filter.Meant.shape g.T.Node.Meant.shape g.B.Node.Meant.shape g.B.Plan.Meant.shape
     g.B.ParseBlock.block c.args.state.now.open.items) (shapes_of g.F.Filter.Meant.shape g.T.Node.Meant.shape g.B.Node.Meant.shape
-    c.args.state.now.nodes.items) none nor) (c.unknown_tag.ensures source t h)
+    c.args.state.now.nodes.items) none nor) (c.unknown_tag_error.ensures source t h)

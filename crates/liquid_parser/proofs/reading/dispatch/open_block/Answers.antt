@@ -26,7 +26,7 @@ returns-then-len-saturating_sub g c source t h =
     c.args.outside t (blocks_view g.F.Filter.Meant.shape g.T.Node.Meant.shape g.B.Node.Meant.shape g.B.Plan.Meant.shape
     g.B.ParseBlock.block c.args.state.now.open.items) (shapes_of g.F.Filter.Meant.shape g.T.Node.Meant.shape g.B.Node.Meant.shape
     c.args.state.now.nodes.items) (g.B.ParseBlock.block c.args.kind.now) room)
-    (rw (h.source_is, h.from_is) at c.refused_at.ensures)
+    (rw (h.source_is, h.from_is) at c.error_at.ensures)
 
 pub returns-then-escapes : goal.returns-then-escapes
 returns-then-escapes g c source t h =

@@ -36,4 +36,4 @@ returns-clause-value g c es cover =
     g.B.ParseBlock.block c.args.state.now.open.items) _ _ e (rw (
       c.end_tag-in-None.ensures,
       g.met.B.ParseBlock.named c.args.block.kind.now,
-    ) at c.unclosed.ensures)
+    ) at c.unclosed_error.ensures)

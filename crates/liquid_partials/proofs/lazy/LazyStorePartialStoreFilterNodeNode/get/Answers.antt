@@ -12,7 +12,7 @@ use Rattle.liquid_partials.proofs.lazy.LazyStorePartialStoreFilterNodeNode.get.G
 pub returns-in-Some-clause-gives : goal.returns-in-Some-clause-gives
 returns-in-Some-clause-gives g c =
     subst (λ meant. Gives (λ template. template_nodes g.F.Filter.Meant.shape g.T.Node.Meant.shape g.B.Node.Meant.shape template.value)
-    c.kept_answer.result meant)
+    c.answer_of.result meant)
     (sym (partial_found (kept_or_read (λ template. template_nodes g.F.Filter.Meant.shape g.T.Node.Meant.shape g.B.Node.Meant.shape
     template.value) (language_of g.F.ParseFilter.makes g.T.ParseTag.gives g.B.ParseBlock.block
     c.args.self.now.texts.parser.language.value) c.args.self.now.kept (g.S.PartialSource.texts c.args.self.now.texts.source))
@@ -23,11 +23,11 @@ returns-in-Some-clause-gives g c =
     (g.S.PartialSource.texts c.args.self.now.texts.source)) c.args.name.now
     (kept_as (λ template. template_nodes g.F.Filter.Meant.shape g.T.Node.Meant.shape g.B.Node.Meant.shape template.value)
     c.in-Some.answer.now) (rw c.in-Some.is at c.under.ensures))))
-    c.kept_answer.ensures
+    c.answer_of.ensures
 
 pub returns-in-Some-clause-keeps : goal.returns-in-Some-clause-keeps
 returns-in-Some-clause-keeps g c =
-    kept_stays (is_answer c.kept_answer.result) (all_kept (λ template. template_nodes g.F.Filter.Meant.shape g.T.Node.Meant.shape
+    kept_stays (is_answer c.answer_of.result) (all_kept (λ template. template_nodes g.F.Filter.Meant.shape g.T.Node.Meant.shape
     g.B.Node.Meant.shape template.value) c.args.self.now.kept) (readings
     (language_of g.F.ParseFilter.makes g.T.ParseTag.gives g.B.ParseBlock.block c.args.self.now.texts.parser.language.value)
     (g.S.PartialSource.texts c.args.self.now.texts.source)) c.args.name.now

@@ -8,7 +8,7 @@ use Rattle.liquid_partials.proofs.lazy.LazyStorePartialStoreFilterNodeNode.try_g
 
 pub returns-in-Some-clause-gives : goal.returns-in-Some-clause-gives
 returns-in-Some-clause-gives g c =
-    if_ok c.kept_tree.result (λ found h. h ∙ sym (tree_found (kept_or_read
+    if_ok c.tree_of.result (λ found h. h ∙ sym (tree_found (kept_or_read
     (λ template. template_nodes g.F.Filter.Meant.shape g.T.Node.Meant.shape g.B.Node.Meant.shape template.value)
     (language_of g.F.ParseFilter.makes g.T.ParseTag.gives g.B.ParseBlock.block c.args.self.now.texts.parser.language.value)
     c.args.self.now.kept (g.S.PartialSource.texts c.args.self.now.texts.source)) c.args.name.now
@@ -18,11 +18,11 @@ returns-in-Some-clause-gives g c =
     (language_of g.F.ParseFilter.makes g.T.ParseTag.gives g.B.ParseBlock.block c.args.self.now.texts.parser.language.value)
     (g.S.PartialSource.texts c.args.self.now.texts.source)) c.args.name.now
     (kept_as (λ template. template_nodes g.F.Filter.Meant.shape g.T.Node.Meant.shape g.B.Node.Meant.shape template.value)
-    c.in-Some.answer.now) (rw c.in-Some.is at c.under.ensures)))) c.kept_tree.ensures
+    c.in-Some.answer.now) (rw c.in-Some.is at c.under.ensures)))) c.tree_of.ensures
 
 pub returns-in-Some-clause-keeps : goal.returns-in-Some-clause-keeps
 returns-in-Some-clause-keeps g c =
-    kept_stays (is_ok c.kept_tree.result) (all_kept (λ template. template_nodes g.F.Filter.Meant.shape g.T.Node.Meant.shape
+    kept_stays (is_ok c.tree_of.result) (all_kept (λ template. template_nodes g.F.Filter.Meant.shape g.T.Node.Meant.shape
     g.B.Node.Meant.shape template.value) c.args.self.now.kept) (readings
     (language_of g.F.ParseFilter.makes g.T.ParseTag.gives g.B.ParseBlock.block c.args.self.now.texts.parser.language.value)
     (g.S.PartialSource.texts c.args.self.now.texts.source)) c.args.name.now

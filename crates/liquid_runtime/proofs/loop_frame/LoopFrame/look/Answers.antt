@@ -1,4 +1,4 @@
-use Rattle.std.proofs.Common.{◌≡◌, Bool, Some, None, cond, codes, string_bytes, bytes_eq, sym, ap, ◌∙◌}
+use Rattle.std.proofs.Common.{Bool, Some, None, cond, codes, bytes_eq, sym, ap, ◌∙◌}
 use Rattle.liquid_runtime.specs.meaning.LoopNames.{forloop, item_tree}
 use Rattle.liquid_runtime.proofs.LoopLaws.{looked}
 use Rattle.liquid_runtime.proofs.loop_frame.LoopFrame.look.Goals as goal

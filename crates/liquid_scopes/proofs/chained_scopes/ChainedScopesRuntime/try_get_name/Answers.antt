@@ -11,6 +11,6 @@ loop-link-preserved g c =
     let xs = c.deref-link-items.result.now in
     let i = c.loop-link.link-index in
     let l = c.link-item.result in
-    c.found-found.ensures ∙ ap (layer_found (layer_of l) c.args.name.now) c.loop-link.invariant
+    c.find_name-found.ensures ∙ ap (layer_found (layer_of l) c.args.name.now) c.loop-link.invariant
     ∙ sym (lookup_link (layer_of l) (shown_over v (map layer_of (take i xs))) c.args.name.now)
     ∙ ap (λ u. lookup u c.args.name.now) (sym (shown_step layer_of v xs i l c.loop-link-test.true c.link-item.is))

@@ -1,4 +1,4 @@
-use Rattle.std.proofs.Common.{◌≡◌, ap, sym, ◌∙◌}
+use Rattle.std.proofs.Common.{ap, sym, ◌∙◌}
 use Rattle.std.specs.Prelude.{is_some, nat_eq, ◌&&◌, ◌||◌}
 use Rattle.std.specs.FinMap.{get}
 use Rattle.liquid_runtime.specs.meaning.LoopNames.{loop_names}

@@ -1,4 +1,4 @@
-use Rattle.std.proofs.Common.{◌≡◌, sym, ap, ◌∙◌}
+use Rattle.std.proofs.Common.{sym, ap, ◌∙◌}
 use Rattle.std.specs.FinMap.{get}
 use Rattle.liquid_runtime.specs.meaning.LoopNames.{loop_names}
 use Rattle.liquid_runtime.proofs.FrameLookups.{seal_own, seal_below}

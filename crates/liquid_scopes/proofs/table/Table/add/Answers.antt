@@ -1,4 +1,4 @@
-use Rattle.std.proofs.Common.{[], ◌∷◌, ◌++◌, ap, sym, ◌∙◌, cond, map, arith}
+use Rattle.std.proofs.Common.{[], ◌∷◌, ◌++◌, ap, sym, ◌∙◌, cond, map, arith, rules}
 use Rattle.liquid_scopes.specs.steps.Layers.{is_global}
 use Rattle.liquid_scopes.specs.steps.LinkLayers.{layer_of}
 use Rattle.liquid_scopes.specs.steps.Standing.{is_sandboxed, listed_at}
@@ -15,9 +15,9 @@ invariant_of-self g c =
     let link = c.args.link in
     let place = c.len-place.result in
     record {
-      fits = λ q j. c.in-Ok.ensures.fits q j
+      fits = λ q j. c.next_unlisted.ensures.fits (search rules) q j
           ∙ ap (λ ls. listed_at ls t.unlisted q j) (sym (ap (map layer_of)
-          (c.push_reserved.ensures.items ∙ ap (λ links. links.items ++ link ∷ []) c.in-Ok.ensures.links)
+          (c.push_reserved.ensures.items ∙ ap (λ links. links.items ++ link ∷ []) c.next_unlisted.ensures.links)
           ∙ map_append layer_of s.links.items (link ∷ [])));
       seals_are =
           kept_place is_sandboxed layer_of xs ys link place _ _ c.push_reserved.ensures.items

@@ -10,4 +10,4 @@ pub returns-in-Some : goal.returns-in-Some
 returns-in-Some c ts are =
     let found = c.in-Some.ensures.value in
     let refused = one_expected c.args.self ts _ _ _ found.shape are c.match_white.ensures.value found.match in
-    if_some_weaker (told c.refused_at.result) (λ r is. refused ∙ ap (λ x. Err x) (sym is)) c.refused_at.ensures
+    if_some_weaker (told c.error_at.result) (λ r is. refused ∙ ap (λ x. Err x) (sym is)) c.error_at.ensures

@@ -1,9 +1,0 @@
-//! Two types of plug-ins as one: the tags and blocks of a library, and a host's own beside them.
-#![tactic(auto)]
-
-pub mod blocks;
-pub mod nodes;
-pub mod one_of;
-pub mod tags;
-
-pub use one_of::Beside;

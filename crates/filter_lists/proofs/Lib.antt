@@ -1,4 +1,0 @@
-pub mod Steps
-pub mod DistinctLemmas
-pub mod LastLemmas
-pub mod DecimalSumLemmas

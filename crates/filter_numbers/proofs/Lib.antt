@@ -1,3 +1,0 @@
-pub mod DivisionLemmas
-pub mod RoundingLemmas
-pub mod NearestLemmas

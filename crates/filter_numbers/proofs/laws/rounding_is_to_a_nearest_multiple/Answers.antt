@@ -1,5 +1,0 @@
-use Rattle.filter_numbers.proofs.NearestLemmas.{rounded_nearest}
-use Rattle.filter_numbers.proofs.laws.rounding_is_to_a_nearest_multiple.Goals as goal
-
-pub returns : goal.returns
-returns c = rounded_nearest c.args.number c.args.power

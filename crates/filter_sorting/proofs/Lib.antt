@@ -1,3 +1,0 @@
-pub mod StableOrder
-pub mod KeyOrder
-pub mod NumberOrder

@@ -1,2 +1,0 @@
-pub mod SliceLemmas
-pub mod FirstWords

@@ -1,7 +1,0 @@
-use Rattle.std.proofs.Common.{ap, ◌∙◌}
-use Rattle.liquid_value.specs.meaning.Tree.{array}
-use Rattle.filter_strings.proofs.SliceLemmas.{items_copied}
-use Rattle.filter_strings.proofs.cutting.array_of.Goals as goal
-
-pub returns : goal.returns
-returns c = c.from.ensures ∙ ap array (items_copied c.args.items.now c.in_ok-to_vec.field-0.items c.in_ok-to_vec.ensures.ok)

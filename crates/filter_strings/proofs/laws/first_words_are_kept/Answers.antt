@@ -1,5 +1,0 @@
-use Rattle.filter_strings.proofs.FirstWords.{first_words}
-use Rattle.filter_strings.proofs.laws.first_words_are_kept.Goals as goal
-
-pub returns : goal.returns
-returns c = first_words c.args.count c.args.text.now c.utf8.text

@@ -1,0 +1,67 @@
+-- A text that is one tag, and what it is read as.
+use Rattle.std.proofs.Common.{◌≡◌, ℕ, List, [], ◌∷◌, Option, Some, None, Result, Ok, Err, refl, sym, ap, ◌∙◌, subst, append-nil}
+use Rattle.std.specs.Prelude.{codes, is_some, IfSome, T, ok_or}
+use Rattle.liquid_error.specs.declared.error.Error.{Error}
+use Rattle.liquid_error.specs.meaning.Refusal.{Refusal, ok_then}
+use Rattle.liquid_error.specs.meaning.Told.{told}
+use Rattle.liquid_grammar.specs.meaning.Cover.{Cover, Element, done, next, raw, tag_element, expression, invalid}
+use Rattle.liquid_grammar.specs.meaning.Tokens as token
+use Rattle.liquid_grammar.specs.meaning.Tokens.{TagRule}
+use Rattle.liquid_grammar.proofs.CoverLemmas.{cover_of}
+use Rattle.liquid_parser.specs.declared.cursor.tag.Tag.{Tag}
+use Rattle.liquid_parser.specs.meaning.Handed.{Tokens, handed}
+use Rattle.liquid_parser.specs.meaning.Plugins.{AreTokens}
+use Rattle.liquid_parser.specs.meaning.Reading.{refused_at}
+use Rattle.liquid_parser.specs.meaning.WholeTag.{GivesTag, Refuses, WholeTag}
+use Rattle.liquid_std.specs.declared.conditions.condition.ConditionShape.{ConditionShape}
+use Rattle.liquid_std.specs.meaning.conditions.ConditionsGiven.{condition_given}
+use Rattle.jekyll_expressions.specs.meaning.Reading.{condition_of_tag, only_tag, tag_read}
+
+-- the text is this tag, or no tag at all
+abbrev Fits : List ℕ → Option token.Tag → Type 0
+Fits s None = ¬ (WholeTag s)
+Fits s (Some tag) = TagRule s [] tag
+
+abbrev Only : List ℕ → List Element → Type 0
+Only s es = (others : List Element) → Cover s others → others ≡ es
+
+not_whole : (s : List ℕ) (es : List Element) → Only s es → only_tag es ≡ None → ¬ (WholeTag s)
+not_whole s es only none w =
+    let alone : Cover s (tag_element w.tag s ∷ []) = next (record { joined = sym (append-nil s); kind = w.match }) done in
+    let same : Some w.tag ≡ None = ap only_tag (only (tag_element w.tag s ∷ []) alone) ∙ none in
+    subst T (ap is_some same) tt
+
+fits : (s : List ℕ) (es : List Element) → Cover s es → Only s es → Fits s (only_tag es)
+fits s [] c only = not_whole s [] only refl
+fits s (tag_element t x ∷ []) (next is done) only = is.kind
+fits s (tag_element t x ∷ e ∷ es) c only = not_whole s (tag_element t x ∷ e ∷ es) only refl
+fits s (raw x ∷ es) c only = not_whole s (raw x ∷ es) only refl
+fits s (expression chain x ∷ es) c only = not_whole s (expression chain x ∷ es) only refl
+fits s (invalid x ∷ es) c only = not_whole s (invalid x ∷ es) only refl
+
+module _ (s : List ℕ) where
+  -- what the text is read as, by the tag that it is
+  abbrev read_as : Option token.Tag → Result ConditionShape Refusal
+  read_as o = ok_then (ok_or o (refused_at s (codes "Invalid liquid") s)) (condition_of_tag s)
+
+  -- the tokens of the tag are read, or the refusal is that of the text
+  abbrev pub IsRead : Result Tag Error → Result ConditionShape Refusal → Type 0
+  IsRead (Ok tag) read = (ts : Tokens) × AreTokens tag.tokens ts × (read ≡ condition_given ts)
+  IsRead (Err e) read = IfSome (told e) (λ r. read ≡ Err r)
+
+  if_some : {A : Type 0} {P Q : A → Type 0} (o : Option A) → ((x : A) → P x → Q x) → IfSome o P → IfSome o Q
+  if_some None f h = tt
+  if_some (Some x) f h = f x h
+
+  read_by : (o : Option token.Tag) → Fits s o → (result : Result Tag Error) → ((t : token.Tag) → TagRule s [] t → GivesTag result s t)
+      → (¬ (WholeTag s) → Refuses result (refused_at s (codes "Invalid liquid") s)) → IsRead result (read_as o)
+  read_by (Some t) fit (Ok tag) gives none =
+      let g = gives t fit in (handed s t, g.1.tokens_are, ap (λ r. ok_then r (λ _. condition_given (handed s t))) g.0)
+  read_by (Some t) fit (Err e) gives none = if_some (told e) (λ r q. ap (λ r. ok_then r (λ _. condition_given (handed s t))) q) (gives t fit)
+  read_by None fit (Ok tag) gives none = absurd (none fit)
+  read_by None fit (Err e) gives none = if_some (told e) (λ r q. ap (λ x. Err x) (sym q)) (none fit)
+
+  pub tag_is_read : (result : Result Tag Error) → ((t : token.Tag) → TagRule s [] t → GivesTag result s t)
+      → (¬ (WholeTag s) → Refuses result (refused_at s (codes "Invalid liquid") s)) → IsRead result (tag_read s)
+  tag_is_read result gives none =
+      let c = cover_of s in read_by (only_tag c.elements) (fits s c.elements c.cover c.only) result gives none

@@ -1,0 +1,5 @@
+pub mod Reading
+pub mod Items
+pub mod Kinds
+pub mod Plugins
+pub mod Table

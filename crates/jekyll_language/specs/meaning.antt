@@ -1,0 +1,4 @@
+pub mod Plugins
+pub mod Languages
+pub mod Rendered
+pub mod Site

@@ -1,9 +1,0 @@
-use Rattle.std.proofs.Common.{◌≡◌, drop, map}
-use Rattle.liquid_value.specs.meaning.Cow.{cow_view}
-use Rattle.jekyll_lists.specs.meaning.ItemKeys.{walked_on}
-use Rattle.jekyll_lists.proofs.item_keys.walked_on.Given as goal
-
-abbrev pub invariant-loop-name : goal.invariant-loop-name
-invariant-loop-name l =
-    walked_on (map (λ n. n.now) l.names) (cow_view l.initial.current) ≡ walked_on (map (λ n. n.now) (drop l.name-index l.names))
-    (cow_view l.current)

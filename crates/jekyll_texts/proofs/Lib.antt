@@ -1,6 +1,0 @@
-pub mod RunLemmas
-pub mod EscapeLemmas
-pub mod IndexLemmas
-pub mod NumeralLemmas
-pub mod TypographyLemmas
-pub mod AsciiLemmas

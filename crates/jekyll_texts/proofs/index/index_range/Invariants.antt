@@ -1,6 +1,0 @@
-use Rattle.std.proofs.Common.{◌≡◌, ◌++◌, drop, take}
-use Rattle.jekyll_texts.specs.meaning.Index.{index_stripped}
-use Rattle.jekyll_texts.proofs.index.index_range.Given as goal
-
-abbrev pub invariant-loop-at : goal.invariant-loop-at
-invariant-loop-at l = index_stripped l.text ≡ take l.at l.text ++ index_stripped (drop l.at l.text)

@@ -1,9 +1,0 @@
-use Rattle.std.proofs.Common.{◌≡◌, ◌++◌, drop, map}
-use Rattle.liquid_value.specs.meaning.View.{view as tree_of, items_view}
-use Rattle.filter_values.specs.meaning.Items.{own_items}
-use Rattle.jekyll_values.proofs.lists.push_copies.Given as goal
-
-abbrev pub invariant-loop-item : goal.invariant-loop-item
-invariant-loop-item l =
-    map tree_of l.initial.all.items ++ own_items (items_view l.items.items) ≡ map tree_of l.all.items
-    ++ own_items (items_view (drop l.item-index l.item-items))

@@ -1,5 +1,0 @@
-pub mod Contained
-pub mod Conditions
-pub mod ConditionsGiven
-pub mod Values
-pub mod Branches

@@ -1,0 +1,12 @@
+use Rattle.liquid_dates.proofs.WholeLemmas.{dashed_found, dashed_whole, found_weaker, none_weaker}
+use Rattle.liquid_dates.proofs.date_text.iso_date.Goals as goal
+
+pub returns-clause-fits : goal.returns-clause-fits
+returns-clause-fits c =
+    found_weaker _ _ _ (λ d h. dashed_found c.args.text.now c.read_iso_date-read.result d c.read_iso_date-read.ensures.value h)
+    c.date_of.ensures.found
+
+pub returns-clause-none : goal.returns-clause-none
+returns-clause-none c =
+    none_weaker _ _ _ (λ d h. dashed_whole c.args.text.now c.read_iso_date-read.result d c.read_iso_date-read.ensures.value h)
+    c.date_of.ensures.none

@@ -1,0 +1,13 @@
+use Rattle.liquid_dates.proofs.WholeLemmas.{found_weaker, none_weaker}
+use Rattle.liquid_dates.proofs.DateTimeForms.{dashed_found, dashed_whole}
+use Rattle.liquid_dates.proofs.date_time_text.iso_date_time.Goals as goal
+
+pub returns-clause-fits : goal.returns-clause-fits
+returns-clause-fits c =
+    found_weaker _ _ _ (λ dt h. dashed_found c.args.given c.args.text.now c.read_iso_stamp-read.result dt
+    c.read_iso_stamp-read.ensures.value c.read_iso_stamp-read.ensures.whole h) c.date_time_of.ensures.found
+
+pub returns-clause-none : goal.returns-clause-none
+returns-clause-none c =
+    none_weaker _ _ _ (λ dt h. dashed_whole c.args.given c.args.text.now c.read_iso_stamp-read.result dt
+    c.read_iso_stamp-read.ensures.value c.read_iso_stamp-read.ensures.whole h) c.date_time_of.ensures.none

@@ -1,0 +1,32 @@
+use Rattle.std.proofs.Common.{◌+◌, ◌++◌, drop, map, ap, sym, ◌∙◌}
+use Rattle.std.proofs.lemmas.Bool.{MatchBool-at_true, MatchBool-at_false, not-true}
+use Rattle.liquid_value.specs.meaning.View.{view}
+use Rattle.liquid_filters.specs.meaning.list.Choices.{distinct, items_in}
+use Rattle.liquid_filters.specs.meaning.list.Entries.{entry_view}
+use Rattle.liquid_filters.proofs.DistinctLemmas.{is_seen, unseen, kept-start, kept-new, kept-old, not-false}
+use Rattle.liquid_filters.proofs.ListSteps.{mapped-drop}
+use Rattle.liquid_filters.proofs.list.choices.distinct.Goals as goal
+use Rattle.liquid_filters.proofs.list.choices.distinct.Goals.{then-branch+in_ok-push_copy, else-branch}
+
+pub loop-entry-init : goal.loop-entry-init
+loop-entry-init c = kept-start _ _ _ c.new-kept.ensures.items c.new-seen.ensures.empty
+
+pub loop-entry-preserved : goal.loop-entry-preserved
+loop-entry-preserved c =
+    let l = c.loop-entry in
+    let x = c.entry-item.result in
+    let front = mapped-drop entry_view c.args.entries.now l.entry-index x c.loop-entry-test.true c.entry-item.is in
+    let so_far = ap (λ es. map view l.kept.items ++ items_in (unseen l.seen.keys (distinct es))) (sym front) ∙ l.invariant in
+    let rest = map entry_view (drop (l.entry-index + 1) c.args.entries.now) in
+    let key = c.as_view.ensures in
+    let added = c.in_ok-insert.ensures.added in
+    elim c.if-branch.branch [
+      | then-branch+in_ok-push_copy w ↦
+          kept-new _ _ _ _ _ (entry_view x) _ _ (ap (λ v. map view v.items) w.kept-is ∙ w.in_ok-push_copy.ensures)
+          (MatchBool-at_true _ _ w.if-branch.true c.in_ok-insert.ensures.keys) key
+          (ap (is_seen l.seen.keys) (sym key) ∙ not-true _ (sym added ∙ w.if-branch.true)) so_far
+      | else-branch w ↦
+          ap (λ v. map view v.items ++ items_in (unseen c.insert.new.self.keys (distinct rest))) w.kept-is
+          ∙ kept-old _ _ _ (entry_view x) _ _ (MatchBool-at_false _ _ w.if-branch.false c.in_ok-insert.ensures.keys)
+          (ap (is_seen l.seen.keys) (sym key) ∙ not-false _ (sym added ∙ w.if-branch.false)) so_far
+    ]

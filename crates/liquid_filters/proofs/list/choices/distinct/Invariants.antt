@@ -1,0 +1,11 @@
+use Rattle.std.proofs.Common.{◌≡◌, ◌++◌, drop, map}
+use Rattle.liquid_value.specs.meaning.View.{view as tree_of}
+use Rattle.liquid_filters.specs.meaning.list.Choices.{distinct, items_in}
+use Rattle.liquid_filters.specs.meaning.list.Entries.{entry_view}
+use Rattle.liquid_filters.proofs.DistinctLemmas.{unseen}
+use Rattle.liquid_filters.proofs.list.choices.distinct.Given as goal
+
+abbrev pub invariant-loop-entry : goal.invariant-loop-entry
+invariant-loop-entry l =
+    map tree_of l.kept.items ++ items_in (unseen l.seen.keys (distinct (map entry_view (drop l.entry-index l.entries)))) ≡ items_in
+    (distinct (map entry_view l.entries))

@@ -1,0 +1,10 @@
+pub mod Written
+pub mod Appending
+pub mod Case
+pub mod Stripping
+pub mod Lines
+pub mod Html
+pub mod Replacement
+pub mod Splitting
+pub mod Truncation
+pub mod Encoding

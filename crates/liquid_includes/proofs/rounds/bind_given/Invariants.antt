@@ -1,8 +1,0 @@
-use Rattle.std.proofs.Common.{◌≡◌, drop, map}
-use Rattle.liquid_runtime.specs.meaning.Maps.{names_of}
-use Rattle.liquid_includes.specs.meaning.Rounds.{given_of, with_given}
-use Rattle.liquid_includes.proofs.rounds.bind_given.Given as goal
-
-abbrev pub invariant-loop-pair : goal.invariant-loop-pair
-invariant-loop-pair l =
-    with_given (names_of l.fn.names) (map given_of l.given) ≡ with_given (names_of l.names) (map given_of (drop l.pair-index l.given))

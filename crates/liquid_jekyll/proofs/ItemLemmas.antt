@@ -1,0 +1,34 @@
+-- Items of an array as trees.
+use Rattle.std.proofs.Common.{◌≡◌, ℕ, ◌-◌, ◌≤◌, List, [], ◌∷◌, map, length, take, drop, refl, sym, ap, ◌∙◌, arith}
+use Rattle.std.specs.List.{drop-map, take-map}
+use Rattle.std.proofs.lemmas.List.{drop_all, length-drop, length-map, take_all}
+use Rattle.liquid_value.specs.declared.value.Value.{Value}
+use Rattle.liquid_value.specs.meaning.Tree.{Tree}
+use Rattle.liquid_value.specs.meaning.View.{view, items_of, items_view}
+use Rattle.liquid_filters.specs.meaning.value.Items.{own_items}
+use Rattle.liquid_jekyll.specs.declared.value.lists.End.{End}
+use Rattle.liquid_jekyll.specs.declared.value.lists.End.TheVariants.{First, Last}
+use Rattle.liquid_jekyll.specs.meaning.value.Lists.{without}
+
+own_items_of : (ts : List Tree) → own_items (items_of ts) ≡ ts
+own_items_of [] = refl
+own_items_of (t ∷ ts) = ap (λ rest. t ∷ rest) (own_items_of ts)
+
+-- what is left of the items is what is left of their meanings
+pub items_cut : (end : End) (n : ℕ) (xs : List Value) → without end n (own_items (items_view xs)) ≡ without end n (map view xs)
+items_cut end n xs = ap (without end n) (own_items_of (map view xs))
+
+module _ {A : Type 0} (f : A → Tree) (xs : List A) (n : ℕ) where
+  -- nothing is left of fewer items than are left out
+  pub none_kept : (end : End) → length xs ≤ n → [] ≡ without end n (map f xs)
+  none_kept First past = sym (drop_all n (map f xs) (omega (arith, length-map xs f)))
+  none_kept Last past =
+      let none : length (map f xs) - n ≡ 0 = omega (arith, length-map xs f) in
+      sym (ap (λ k. take k (map f xs)) none)
+
+  pub first_cut : map f (take (length xs - n) (drop n xs)) ≡ drop n (map f xs)
+  first_cut =
+      ap (map f) (take_all (length xs - n) (drop n xs) (omega (arith, length-drop n xs))) ∙ sym (drop-map f n xs)
+
+  pub last_cut : map f (take (length xs - n) xs) ≡ take (length (map f xs) - n) (map f xs)
+  last_cut = sym (take-map f (length xs - n) xs) ∙ ap (λ k. take (k - n) (map f xs)) (sym (length-map xs f))

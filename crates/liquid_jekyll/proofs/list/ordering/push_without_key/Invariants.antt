@@ -1,0 +1,11 @@
+use Rattle.std.proofs.Common.{◌≡◌, ◌++◌, drop, map}
+use Rattle.liquid_value.specs.meaning.View.{view as tree_of}
+use Rattle.liquid_filters.specs.meaning.list.Choices.{items_in}
+use Rattle.liquid_filters.specs.meaning.list.Entries.{entry_view}
+use Rattle.liquid_jekyll.specs.meaning.list.Ordering.{without_key}
+use Rattle.liquid_jekyll.proofs.list.ordering.push_without_key.Given as goal
+
+abbrev pub invariant-loop-entry : goal.invariant-loop-entry
+invariant-loop-entry l =
+    map tree_of l.items.items ++ items_in (without_key (map entry_view (drop l.entry-index l.entries)))
+    ≡ map tree_of l.initial.items.items ++ items_in (without_key (map entry_view l.entries))

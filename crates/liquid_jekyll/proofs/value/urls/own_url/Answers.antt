@@ -1,0 +1,10 @@
+use Rattle.std.proofs.Common.{ap, codes, ◌∙◌}
+use Rattle.std.specs.Prelude.{option_map}
+use Rattle.liquid_value.specs.meaning.View.{view}
+use Rattle.liquid_paths.proofs.Values.{value_of_member}
+use Rattle.liquid_paths.proofs.Turns.{now_mapped}
+use Rattle.liquid_jekyll.proofs.value.urls.own_url.Goals as goal
+
+pub returns : goal.returns
+returns c =
+    now_mapped view c.get.result ∙ ap (option_map view) c.get.ensures.value ∙ value_of_member (codes "url") c.args.members.now.entries

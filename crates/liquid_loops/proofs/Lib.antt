@@ -1,2 +1,0 @@
-pub mod PickedLemmas
-pub mod OptionLemmas

@@ -1,3 +1,0 @@
-pub mod meaning
-pub mod laws
-pub mod steps

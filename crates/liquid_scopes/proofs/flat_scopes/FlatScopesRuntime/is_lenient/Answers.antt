@@ -1,8 +1,0 @@
-use Rattle.std.proofs.Common.{sym, ◌∙◌, map}
-use Rattle.liquid_scopes.specs.steps.LinkLayers.{layer_of}
-use Rattle.liquid_scopes.proofs.LayerLaws.{shown_lenient}
-use Rattle.liquid_scopes.proofs.flat_scopes.FlatScopesRuntime.is_lenient.Goals as goal
-
-pub returns : goal.returns
-returns g c =
-    c.is_lenient.ensures ∙ sym (shown_lenient (g.R.Runtime.view c.args.self.now.base) (map layer_of c.args.self.now.table.links.items))

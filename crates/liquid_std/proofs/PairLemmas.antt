@@ -1,0 +1,194 @@
+-- How the pairs of a call are read, pair by pair.
+use Rattle.std.proofs.Common.{◌≡◌, ℕ, List, [], ◌∷◌, ◌++◌, codes, Bool, true, false, cond, Option, None, Some, Result, Ok, Err}
+use Rattle.std.proofs.Common.{refl, sym, ap, subst, ◌∙◌, append_assoc}
+use Rattle.std.specs.Prelude.{IfSome, bytes_eq, option_and_then}
+use Rattle.std.proofs.lemmas.List.{append-nil}
+use Rattle.liquid_error.specs.declared.place.Place.{Place}
+use Rattle.liquid_error.specs.meaning.Refusal.{Refusal, ok_then}
+use Rattle.liquid_parser.specs.declared.cursor.token.TagToken.{TagToken}
+use Rattle.liquid_parser.specs.declared.cursor.token.TryMatchToken.{TryMatchToken}
+use Rattle.liquid_parser.specs.declared.cursor.token.TryMatchToken.TheVariants.{Matches, Fails}
+use Rattle.liquid_parser.specs.declared.cursor.tokens.TagTokenIter.{TagTokenIter}
+use Rattle.liquid_parser.specs.meaning.Cursors.{FailedToken, HandsOut, IsToken, Tries, matched_of}
+use Rattle.liquid_parser.specs.meaning.Handed.{Token, Tokens, expect_identifier, expect_value, first_of, next, or_unexpected, unexpected}
+use Rattle.liquid_parser.proofs.StepLemmas.{then_refused}
+use Rattle.liquid_plugins.specs.meaning.Expression.{ExpressionShape}
+use Rattle.liquid_tags.specs.meaning.Asked.{next_as}
+use Rattle.liquid_tags.specs.meaning.CallsGiven.{expect_colon}
+use Rattle.liquid_tags.specs.meaning.Partials.{Pair}
+use Rattle.liquid_std.specs.meaning.inclusion.CallsGiven.{after_comma, from_colon, from_value, is_comma, pair_from, pairs_from}
+use Rattle.liquid_std.specs.steps.inclusion.Pairs.{Finds, first_by, next_first, pair_given}
+
+abbrev following : Token → List Token → Tokens
+following t more = record { following = t.following; left = more }
+
+-- a token is what is expected of it, or is refused
+pub token_taken : {A M : Type 0} (of : A → M) (expect : Token → Option M) (t : Token) (token : TagToken) (attempt : TryMatchToken A) (x : A)
+    → IsToken token t → Tries of token attempt (expect t)
+    → ((u : Token) → FailedToken attempt u → or_unexpected u (matched_of attempt) ≡ Ok x) → or_unexpected t (expect t) ≡ Ok (of x)
+token_taken of expect t token (Matches y) x is tries gives = ap (or_unexpected t) tries ∙ ap (λ q. ok_then q (λ a. Ok (of a))) (gives t tt)
+token_taken of expect t token (Fails u) x is tries gives =
+    let e : Err (unexpected t) ≡ Ok x = gives t (subst (λ k. IsToken k t) (sym tries.1) is) in
+    cc
+
+pub token_refused : {A M : Type 0} (of : A → M) (expect : Token → Option M) (t : Token) (token : TagToken) (attempt : TryMatchToken A)
+    (o : Option Refusal) → IsToken token t → Tries of token attempt (expect t)
+    → ((u : Token) → FailedToken attempt u → IfSome o (λ r. or_unexpected u (matched_of attempt) ≡ Err r))
+    → IfSome o (λ r. or_unexpected t (expect t) ≡ Err r)
+token_refused of expect t token (Matches y) None is tries gives = gives t tt
+token_refused of expect t token (Matches y) (Some r) is tries gives =
+    let e : Ok y ≡ Err r = gives t tt in
+    cc
+token_refused of expect t token (Fails u) None is tries gives = gives t (subst (λ k. IsToken k t) (sym tries.1) is)
+token_refused of expect t token (Fails u) (Some r) is tries gives =
+    ap (or_unexpected t) tries.0 ∙ ap (λ q. ok_then q (λ a. Ok (of a))) (gives t (subst (λ k. IsToken k t) (sym tries.1) is))
+
+abbrev with_name : List ℕ → ExpressionShape × Tokens → Result (Pair × Tokens) Refusal
+with_name name value = Ok ((name, value.0), value.1)
+
+abbrev after_sign : List ℕ → Unit {0} × Tokens → Result (Pair × Tokens) Refusal
+after_sign name sign = ok_then (next_as expect_value sign.1) (with_name name)
+
+abbrev after_name : Tokens → List ℕ → Result (Pair × Tokens) Refusal
+after_name ts name = ok_then (next_as expect_colon ts) (after_sign name)
+
+-- a pair, and the pairs that the tokens after it make
+abbrev going_on : Pair × Tokens → Result (List Pair) Refusal
+going_on g = ok_then (pairs_from g.1.left) (λ qs. Ok (g.0 ∷ qs))
+
+valued : (name : List ℕ) (t : Token) (more : List Token) (r : Result ExpressionShape Refusal)
+    → ok_then r (λ e. ok_then (pairs_from more) (λ pairs. Ok ((name, e) ∷ pairs)))
+    ≡ ok_then (ok_then (ok_then r (λ e. Ok (e, following t more))) (with_name name)) going_on
+valued name t more (Ok e) = refl
+valued name t more (Err refusal) = refl
+
+value_on : (name : List ℕ) (place : Place) (ts : List Token)
+    → from_value name place ts
+    ≡ ok_then (ok_then (next_as expect_value (record { following = place; left = ts })) (with_name name)) going_on
+value_on name place [] = refl
+value_on name place (t ∷ more) = valued name t more (or_unexpected t (expect_value t))
+
+signed : (name : List ℕ) (t : Token) (more : List Token) (r : Result (Unit {0}) Refusal)
+    → ok_then r (λ u. from_value name t.following more)
+    ≡ ok_then (ok_then (ok_then {B = Unit {0} × Tokens} r (λ u. Ok (u, following t more))) (after_sign name)) going_on
+signed name t more (Ok u) = value_on name t.following more
+signed name t more (Err refusal) = refl
+
+colon_on : (name : List ℕ) (place : Place) (ts : List Token)
+    → from_colon name place ts ≡ ok_then (after_name (record { following = place; left = ts }) name) going_on
+colon_on name place [] = refl
+colon_on name place (t ∷ more) = signed name t more (or_unexpected t (expect_colon t))
+
+named : (t : Token) (more : List Token) (r : Result (List ℕ) Refusal)
+    → ok_then r (λ name. from_colon name t.following more) ≡ ok_then (ok_then r (after_name (following t more))) going_on
+named t more (Ok name) = colon_on name t.following more
+named t more (Err refusal) = refl
+
+pair_on : (t : Token) (more : List Token) → pair_from t more ≡ ok_then (pair_given t (following t more)) going_on
+pair_on t more = named t more (or_unexpected t (expect_identifier t))
+
+abbrev from_given : Token × Tokens → Result (List Pair) Refusal
+from_given given = ok_then (pair_given given.0 given.1) going_on
+
+after_at : (ts : List Token) (given : Token × Tokens) → first_of ts ≡ Some given → after_comma ts ≡ from_given given
+after_at [] given e = cc
+after_at (t ∷ more) given e =
+    pair_on t more ∙ ap (λ o. elim o as (λ _. Result (List Pair) Refusal) [ None ↦ after_comma (t ∷ more) | Some g ↦ from_given g ]) e
+
+by_comma : (t : Token) (more : List Token) (b : Bool) (given : Token × Tokens) → first_by (t, following t more) b ≡ Some given
+    → cond b (after_comma more) (pair_from t more) ≡ from_given given
+by_comma t more true given e = after_at more given e
+by_comma t more false given e =
+    pair_on t more ∙ ap (λ o. elim o as (λ _. Result (List Pair) Refusal) [ None ↦ pair_from t more | Some g ↦ from_given g ]) e
+
+-- what the first token of a pair, and those after it, make
+at_first : (place : Place) (ts : List Token) (given : Token × Tokens)
+    → next_first (record { following = place; left = ts }) ≡ Some given → pairs_from ts ≡ from_given given
+at_first place [] given e = cc
+at_first place (t ∷ more) given e = by_comma t more (is_comma t) given e
+
+no_more : (t : Token) (more : List Token) (b : Bool) → first_by (t, following t more) b ≡ None
+    → cond b (after_comma more) (pair_from t more) ≡ Ok []
+no_more t [] true e = refl
+no_more t (u ∷ more) true e = cc
+no_more t more false e = cc
+
+-- if no pair comes, there are none
+none_left : (place : Place) (ts : List Token) → next_first (record { following = place; left = ts }) ≡ None → pairs_from ts ≡ Ok []
+none_left place [] e = refl
+none_left place (t ∷ more) e = no_more t more (is_comma t) e
+
+-- the pairs that were read, and those that the tokens after them make
+abbrev pub read_on : List Pair → List Token → Result (List Pair) Refusal
+read_on done ts = ok_then (pairs_from ts) (λ qs. Ok (done ++ qs))
+
+joined : (done : List Pair) (pair : Pair) (r : Result (List Pair) Refusal)
+    → ok_then (ok_then r (λ qs. Ok (pair ∷ qs))) (λ qs. Ok (done ++ qs)) ≡ ok_then r (λ qs. Ok ((done ++ pair ∷ []) ++ qs))
+joined done pair (Ok qs) = ap (λ ps. Ok ps) (sym (append_assoc done (pair ∷ []) qs))
+joined done pair (Err refusal) = refl
+
+module _ (done : List Pair) (ts : Tokens) (meant : Result (List Pair) Refusal) (so_far : meant ≡ read_on done ts.left) where
+  module _ (given : Token × Tokens) (first : next_first ts ≡ Some given) where
+    paired : meant ≡ ok_then (from_given given) (λ qs. Ok (done ++ qs))
+    paired = so_far ∙ ap (λ r. ok_then r (λ qs. Ok (done ++ qs))) (at_first ts.following ts.left given first)
+
+    -- one pair more is read, or refused
+    pub pair_read : (after : List Pair) (pair : Pair) (rest : Tokens) → pair_given given.0 given.1 ≡ Ok (pair, rest)
+        → after ≡ done ++ pair ∷ [] → meant ≡ read_on after rest.left
+    pair_read after pair rest read pushed =
+        paired ∙ ap (λ r. ok_then (ok_then r going_on) (λ qs. Ok (done ++ qs))) read
+        ∙ joined done pair (pairs_from rest.left)
+        ∙ ap (λ ps. read_on ps rest.left) (sym pushed)
+
+    pub pair_refused : (o : Option Refusal) → IfSome o (λ r. pair_given given.0 given.1 ≡ Err r) → IfSome o (λ r. meant ≡ Err r)
+    pair_refused o refused =
+        subst (λ q. IfSome o (λ r. q ≡ Err r)) (sym paired)
+        (then_refused o (from_given given) (λ qs. Ok (done ++ qs)) (then_refused o (pair_given given.0 given.1) going_on refused))
+
+  -- if no pair comes, the pairs that were read are all
+  pub all_read : next_first ts ≡ None → meant ≡ Ok done
+  all_read none =
+      so_far ∙ ap (λ r. ok_then r (λ qs. Ok (done ++ qs))) (none_left ts.following ts.left none) ∙ ap (λ ps. Ok ps) (append-nil done)
+
+-- a token that is a comma is passed over, and one that is none is the first
+pub first_found : (ts : Tokens) (given : Token × Tokens) (text : List ℕ) (b : Bool) → next ts ≡ Some given → text ≡ given.0.text
+    → bytes_eq text (codes ",") ≡ b
+    → next_first ts ≡ first_by given b
+first_found ts given text b first same is =
+    ap (option_and_then (λ (g : Token × Tokens). first_by g (is_comma g.0))) first
+    ∙ ap (first_by given) (ap (λ x. bytes_eq x (codes ",")) (sym same) ∙ is)
+
+pub finds : (o : Option TagToken) (cursor : TagTokenIter) (ts : Tokens) (meant : Option (Token × Tokens)) → HandsOut o cursor ts meant
+    → Finds o cursor meant
+finds None cursor ts meant handed = handed.0
+finds (Some t) cursor ts meant handed = handed
+
+-- a name, a colon and a value are a pair
+module _ (t : Token) (ts : Tokens) where
+  abbrev after_identifier : Result (List ℕ) Refusal → Result (Pair × Tokens) Refusal
+  after_identifier r = ok_then r (after_name ts)
+
+  pub pair_taken : (name text : List ℕ) (signed : Tokens) (u : Unit {0}) (value : ExpressionShape × Tokens)
+      → or_unexpected t (expect_identifier t) ≡ Ok name → next_as expect_colon ts ≡ Ok (u, signed)
+      → next_as expect_value signed ≡ Ok value → text ≡ name
+      → pair_given t ts ≡ Ok ((text, value.0), value.1)
+  pair_taken name text signed u value is_name is_sign is_value same =
+      ap after_identifier is_name ∙ ap (λ r. ok_then r (after_sign name)) is_sign ∙ ap (λ r. ok_then r (with_name name)) is_value
+      ∙ ap (λ n. with_name n value) (sym same)
+
+  pub name_refused : (o : Option Refusal) → IfSome o (λ r. or_unexpected t (expect_identifier t) ≡ Err r)
+      → IfSome o (λ r. pair_given t ts ≡ Err r)
+  name_refused o refused = then_refused o (or_unexpected t (expect_identifier t)) (after_name ts) refused
+
+  pub sign_refused : (name : List ℕ) (o : Option Refusal) → or_unexpected t (expect_identifier t) ≡ Ok name
+      → IfSome o (λ r. next_as expect_colon ts ≡ Err r) → IfSome o (λ r. pair_given t ts ≡ Err r)
+  sign_refused name o is_name refused =
+      subst (λ q. IfSome o (λ r. q ≡ Err r)) (sym (ap after_identifier is_name))
+      (then_refused o (next_as expect_colon ts) (after_sign name) refused)
+
+  pub value_refused : (name : List ℕ) (signed : Tokens) (u : Unit {0}) (o : Option Refusal)
+      → or_unexpected t (expect_identifier t) ≡ Ok name → next_as expect_colon ts ≡ Ok (u, signed)
+      → IfSome o (λ r. next_as expect_value signed ≡ Err r) → IfSome o (λ r. pair_given t ts ≡ Err r)
+  value_refused name signed u o is_name is_sign refused =
+      subst (λ q. IfSome o (λ r. q ≡ Err r)) (sym (ap after_identifier is_name ∙ ap (λ r. ok_then r (after_sign name)) is_sign))
+      (then_refused o (next_as expect_value signed) (with_name name) refused)

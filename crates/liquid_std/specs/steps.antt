@@ -1,0 +1,3 @@
+pub mod conditions
+pub mod iteration
+pub mod inclusion

@@ -1,4 +1,0 @@
-use Rattle.shop.proofs.pages.Shop.write_page.Goals as goal
-
-pub returns-clause-shown : goal.returns-clause-shown
-returns-clause-shown g c = λ answer reads. c.render_source.ensures.rendered answer (rw c.deref.ensures reads)

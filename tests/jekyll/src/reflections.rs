@@ -1,0 +1,147 @@
+//! What Jekyll's filters, tags and blocks say about themselves.
+use jekyll_expressions::filters;
+use jekyll_tags::{JekyllBlocks, JekyllLinks, JekyllTags};
+use liquid_core::parser::{BlockReflection, FilterReflection, ParameterReflection, TagReflection};
+use rows::{Line, holds};
+use std::alloc::{AllocError, Global};
+use std::test::Fail;
+
+/// The name of each filter, what it returns, its parameters by place and those by keyword, as FILTERS has them.
+const FILTERS: &str = r#"["absolute_url", "The text as a URL of the site.", "", ""]
+["array_to_sentence_string", "The items as they are listed in a sentence.", "connector (optional): The word before the last item, or `and`.", ""]
+["cgi_escape", "The text for a URL.", "", ""]
+["date_to_long_string", "A date with its month.", "day (optional): How the day is written: `ordinal`, or as a number of two digits.; order (optional): What is first: the month with `US`, or the day.", ""]
+["date_to_rfc822", "A date time for mail and RSS.", "", ""]
+["date_to_string", "A date with the short name of its month.", "day (optional): How the day is written: `ordinal`, or as a number of two digits.; order (optional): What is first: the month with `US`, or the day.", ""]
+["date_to_xmlschema", "A date time for XML and Atom.", "", ""]
+["find", "The first item whose key fits a value.", "key (needed): The name of a property, or names with dots between them.; value (needed): What the key has to fit.", ""]
+["find_exp", "The first item for which a condition holds.", "item (needed): The name of an item in the condition, as a text literal.; condition (needed): The condition, as a text literal.", ""]
+["group_by", "The items in groups by a key.", "key (needed): The name of a property, or names with dots between them.", ""]
+["inspect", "The input as JSON, for XML.", "", ""]
+["jsonify", "The input as JSON.", "", ""]
+["markdownify", "What the host has rendered of a text in Markdown.", "", ""]
+["normalize_whitespace", "With one space for each run of white space.", "", ""]
+["number_of_words", "How many words there are.", "mode (optional): The name of a mode, or the default one.", ""]
+["pop", "The array without its last items.", "count (optional): How many items are left out, or one.", ""]
+["push", "The array with one more item at its end.", "item (needed): The new item.", ""]
+["relative_url", "The text as a path of the site.", "", ""]
+["sassify", "What the host has rendered of a text in Sass.", "", ""]
+["scssify", "What the host has rendered of a text in SCSS.", "", ""]
+["shift", "The array without its first items.", "count (optional): How many items are left out, or one.", ""]
+["slugify", "The text as a part of a URL.", "mode (optional): The name of a mode, or the default one.", ""]
+["smartify", "The text with typographic signs.", "", ""]
+["sort", "The items in the order of a key.", "key (optional): The name of a property to go by, or names with dots between them.; nils (optional): Where items without a key are: `first` or `last`.", ""]
+["strip_index", "The path without the name of an index page.", "", ""]
+["to_integer", "The input as a whole number.", "", ""]
+["unshift", "The array with one more item at its start.", "item (needed): The new item.", ""]
+["uri_escape", "The text as a URL.", "", ""]
+["where", "The items whose key fits a value.", "key (needed): The name of a property, or names with dots between them.; value (optional): What the key has to fit, or anything that counts as true.", ""]
+["where_exp", "The items for which a condition holds.", "item (needed): The name of an item in the condition, as a text literal.; condition (needed): The condition, as a text literal.", ""]
+["xml_escape", "The text for XML.", "", ""]"#;
+
+/// How many standard filters have no other meaning in Jekyll: all 65 but `find`, `sort` and `where`.
+const STANDARD_FILTERS: usize = 62;
+
+/// The name of each tag, and its description.
+const TAGS: &str = r#"["include", "Renders a partial."]
+["include_cached", "Renders a partial."]
+["include_relative", "Renders a partial beside the page."]
+["seo", "Renders the partial `seo`."]"#;
+
+/// The name of each tag that writes a URL, and its description.
+const LINKS: &str = r#"["link", "Writes the URL of a file of the site."]
+["post_url", "Writes the URL of a post."]
+["feed_meta", "Writes the element that names the site's feed."]"#;
+
+/// The start and the end of the block, and its description.
+const BLOCK: &str = r#"["highlight", "endhighlight", "Writes its part as code."]"#;
+
+/// Adds a parameter to a list, with its name, whether it may be left out, and its description.
+fn list(all: &mut String, parameter: &ParameterReflection) -> Result<(), AllocError> {
+    if !all.is_empty() {
+        all.push_str("; ")?;
+    }
+    all.push_str(parameter.name)?;
+    all.push_str(if parameter.is_optional {
+        " (optional): "
+    } else {
+        " (needed): "
+    })?;
+    all.push_str(parameter.description)
+}
+
+/// Returns `true` if a text lists these parameters, with `; ` between them.
+fn are_listed(alloc: Global, parameters: &[ParameterReflection], text: Option<&str>) -> bool {
+    let mut all = String::new(alloc);
+    for parameter in parameters {
+        if list(&mut all, parameter).is_err() {
+            return false;
+        }
+    }
+    text == Some(all.as_str())
+}
+
+/// Returns `true` if a filter is as a row says.
+fn filter_holds<P: FilterReflection>(alloc: Global, filter: &P, row: &Line) -> bool {
+    row.text(0) == Some(filter.name())
+        && row.text(1) == Some(filter.description())
+        && are_listed(alloc, filter.positional_parameters(), row.text(2))
+        && are_listed(alloc, filter.keyword_parameters(), row.text(3))
+}
+
+/// Returns `true` if a row says what a tag says about itself.
+fn tag_holds<T: TagReflection>(alloc: Global, tag: &T, line: &str) -> bool {
+    Line::of(alloc, line).is_some_and(|row| {
+        row.text(0) == Some(tag.tag()) && row.text(1) == Some(tag.description())
+    })
+}
+
+/// Returns `true` if a row says what a block says about itself.
+fn block_holds<B: BlockReflection>(alloc: Global, block: &B, line: &str) -> bool {
+    Line::of(alloc, line).is_some_and(|row| {
+        row.text(0) == Some(block.start_tag())
+            && row.text(1) == Some(block.end_tag())
+            && row.text(2) == Some(block.description())
+    })
+}
+
+#[test]
+fn filters_describe_themselves(rt: HostRuntime) -> Result<(), Fail> {
+    let alloc = rt.alloc();
+    let filters = filters(alloc, None)?;
+    for line in FILTERS.lines() {
+        let is_so = Line::of(alloc, line).is_some_and(|row| {
+            filters
+                .get(row.text(0).unwrap_or(""))
+                .is_some_and(|filter| filter_holds(alloc, filter, &row))
+        });
+        holds(is_so, line)?;
+    }
+    holds(
+        filters.plugins().len() == FILTERS.lines().count().saturating_add(STANDARD_FILTERS),
+        "as many filters as rows and standard filters",
+    )
+}
+
+#[test]
+fn tags_and_blocks_describe_themselves(rt: HostRuntime) -> Result<(), Fail> {
+    let alloc = rt.alloc();
+    let tags = [
+        JekyllTags::Include,
+        JekyllTags::IncludeCached,
+        JekyllTags::IncludeRelative,
+        JekyllTags::Seo,
+    ];
+    for (line, tag) in TAGS.lines().zip(tags) {
+        holds(tag_holds(alloc, &tag, line), line)?;
+    }
+    let links = [
+        JekyllLinks::Link,
+        JekyllLinks::PostUrl,
+        JekyllLinks::FeedMeta,
+    ];
+    for (line, link) in LINKS.lines().zip(links) {
+        holds(tag_holds(alloc, &link, line), line)?;
+    }
+    holds(block_holds(alloc, &JekyllBlocks::Highlight, BLOCK), BLOCK)
+}
