@@ -23,7 +23,7 @@ pub(crate) fn chain<'a>(s: &'a str) -> Option<(Option<Fault<'a>>, &'a str)>
     Some((fault, rest))
 }
 
-/// Does the same, and also returns the kind of the chain.
+/// Matches a chain as `chain` does. Returns its kind, its first fault and what follows it.
 #[inline(always)]
 pub(crate) fn chain_and_kind<'a>(s: &'a str) -> Option<(TokenKind<'a>, Option<Fault<'a>>, &'a str)>
     ensures kind { FindsKind (option_map (λ p. p.0) result) (read.chain_of s.now) }

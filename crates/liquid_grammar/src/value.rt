@@ -26,7 +26,7 @@ pub(crate) fn value<'a>(s: &'a str) -> Option<(Option<Fault<'a>>, &'a str)>
     Some((fault, rest))
 }
 
-/// Does the same, and also returns the kind of the value.
+/// Matches a value as `value` does. Returns its kind, its first fault and what follows it.
 #[inline(always)]
 pub(crate) fn value_and_kind<'a>(s: &'a str) -> Option<(TokenKind<'a>, Option<Fault<'a>>, &'a str)>
     ensures kind { FindsValueKind (option_map (λ p. (p.0, p.2)) result) (read.value s.now) }

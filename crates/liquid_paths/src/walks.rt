@@ -85,8 +85,10 @@ pub fn find<'v>(
     find_after(alloc, 0, value, path)
 }
 
-/// Does the same for a path whose first `front` indexes have led to `value`. The walk begins after them, and an error
-/// shows them in `variable`. If the path has no index after them, the result is `value`.
+/// Returns the value at the end of a path whose first `front` indexes have led to `value`.
+///
+/// The walk begins after them. If an index on the way has nothing at it, the error is that of `find`, and it shows them
+/// in `variable`. If the path has no index after them, the result is `value`.
 pub fn find_after<'v>(
     alloc: Global,
     front: usize,
