@@ -6,7 +6,7 @@ ghost use Rattle.liquid_decimals.specs.meaning.Arithmetic.{abs, compare, floor_r
 ghost use Rattle.liquid_decimals.specs.meaning.Arithmetic.{power_of_ten_times};
 
 use crate::decimal::Decimal;
-use crate::division::scaled;
+use crate::division::multiply_by_tens;
 use crate::parts::{GREATEST_SCALE, decimal_from, narrow};
 use std::cmp::Ordering;
 
@@ -132,7 +132,7 @@ fn signed_multiple(mantissa: i64, power: u32) -> i128
     ensures below { result ≤ℤ pos (10 ^ 37) }
     ensures above { neg_ℤ (pos (10 ^ 37)) ≤ℤ result }
 {
-    let magnitude = scaled(mantissa, power) as i128;
+    let magnitude = multiply_by_tens(mantissa, power) as i128;
     if mantissa < 0 { -magnitude } else { magnitude }
 }
 

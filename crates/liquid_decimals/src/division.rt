@@ -23,8 +23,8 @@ impl Decimal {
         }
         quotient(
             differ_in_sign(self.mantissa, divisor.mantissa),
-            scaled(self.mantissa, divisor.scale),
-            scaled(divisor.mantissa, self.scale),
+            multiply_by_tens(self.mantissa, divisor.scale),
+            multiply_by_tens(divisor.mantissa, self.scale),
             scale,
         )
     }
@@ -170,7 +170,7 @@ fn ten_to_19(power: u32) -> u128
 
 /// Returns the magnitude of the mantissa times ten to a power.
 #[tactic(auto, using(crate::proofs::Tens::tens_le_18, crate::proofs::Tens::tens_above_0, crate::proofs::Tens::product_le, crate::proofs::Tens::product_above_0, crate::proofs::Tens::unsigned_abs_above_0))]
-pub(crate) fn scaled(mantissa: i64, power: u32) -> u128
+pub(crate) fn multiply_by_tens(mantissa: i64, power: u32) -> u128
     requires { power ≤ 18 }
     ensures value { result ≡ unsigned_abs mantissa * 10 ^ power }
     ensures below { result ≤ 10 ^ 37 }
@@ -197,11 +197,11 @@ fn long_division(dividend: u128, divisor: u128, digits: u32) -> Option<u64>
         quotient = quotient * 10 + rest * 10 / divisor;
         rest = rest * 10 % divisor;
     }
-    u64::try_from(rounded(quotient, rest, divisor)).ok()
+    u64::try_from(round_quotient(quotient, rest, divisor)).ok()
 }
 
 /// Returns the quotient, or the next one if the rest is half the divisor or more.
-fn rounded(quotient: u128, rest: u128, divisor: u128) -> u128
+fn round_quotient(quotient: u128, rest: u128, divisor: u128) -> u128
     requires rest { rest < divisor }
     requires divisor { divisor ≤ 10 ^ 37 }
     requires quotient { quotient ≤ 10 ^ 37 }

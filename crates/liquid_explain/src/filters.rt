@@ -44,7 +44,7 @@ fn next_filter(s: &str) -> Option<&str>
         (λ rest. Ends (Following bar FilterRule) s.now rest.now) }
     ensures shorter { IfSome result (λ rest. length rest.now < length s.now) }
 {
-    match separated(s, b'|') {
+    match match_separator(s, b'|') {
         None => None,
         Some(start) => match match_filter(start) {
             None => None,
@@ -115,7 +115,7 @@ fn next_argument(s: &str) -> Option<&str>
         (λ rest. Ends (Following comma ArgumentRule) s.now rest.now) }
     ensures shorter { IfSome result (λ rest. length rest.now < length s.now) }
 {
-    match separated(s, b',') {
+    match match_separator(s, b',') {
         None => None,
         Some(start) => match match_argument(start) {
             None => None,
@@ -149,14 +149,14 @@ fn argument_stop(s: &str) -> Option<Stop>
 fn keyword_stop(s: &str) -> Option<Stop>
     ensures { IsFarthest spec.KeywordMisses s.now result }
 {
-    match separated(s, b':') {
+    match match_separator(s, b':') {
         None => None,
         Some(start) => value_stop(start),
     }
 }
 
 /// Returns what follows a separator between white space.
-fn separated(s: &str, separator: u8) -> Option<&str>
+fn match_separator(s: &str, separator: u8) -> Option<&str>
     requires { separator < 128 }
     ensures value { Leaves result (read.separated separator s.now) }
     ensures shorter { IfSome result (λ rest. length rest.now < length s.now) }

@@ -47,7 +47,7 @@ pub fn read_pairs(
     ensures { (ts : Tokens) → AreTokens tokens.entry ts → Gives pairs_of result (pairs_given ts) }
 {
     let arguments = read_from(alloc, false, tokens)?;
-    Ok(owned_pairs(alloc, arguments.keyword)?)
+    Ok(copy_pairs(alloc, arguments.keyword)?)
 }
 
 /// Reads all tokens as arguments: as pairs, and as values too if `takes_values`.
@@ -163,7 +163,7 @@ fn read_pair<'a>(
 }
 
 /// Returns the pairs with owned names.
-fn owned_pairs(
+fn copy_pairs(
     alloc: Global,
     pairs: Vec<(&str, Expression)>,
 ) -> Result<Vec<(String, Expression)>, AllocError>

@@ -140,12 +140,12 @@ fn listed_at(
     ensures { Reads (λ names. map string_bytes names.items) (Some (list_at lists.now path.now)) result }
 {
     match lists.get(path) {
-        Some(names) => copied(alloc, names).map_err(|_| Unread::Memory),
+        Some(names) => copy_names(alloc, names).map_err(|_| Unread::Memory),
         None => Err(Unread::Fault),
     }
 }
 
-fn copied(alloc: Global, names: &Vec<String>) -> Result<Vec<String>, AllocError>
+fn copy_names(alloc: Global, names: &Vec<String>) -> Result<Vec<String>, AllocError>
     ensures { IfOk result (λ copies. map string_bytes copies.items ≡ map string_bytes names.now.items) }
 {
     let mut copies = Vec::with_capacity(alloc, names.len())?;

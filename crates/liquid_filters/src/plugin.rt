@@ -62,7 +62,7 @@ impl<K: FilterKind> ParseFilter for FilterPlugin<K> {
             Ok(FilterCall {
                 kind: self.kind,
                 positional: arguments.positional,
-                keyword: owned_keywords(alloc, arguments.keyword)?,
+                keyword: copy_keywords(alloc, arguments.keyword)?,
             })
         } else {
             Err(unexpected_arguments_error(alloc))
@@ -89,11 +89,11 @@ fn argument_count(arguments: &Vec<Expression>) -> usize
 fn takes(parameters: &[ParameterReflection], count: usize) -> bool
     ensures { result ≡ takes (map (λ p. p.is_optional) parameters.now) count }
 {
-    required(parameters) <= count && count <= parameters.len()
+    count_required(parameters) <= count && count <= parameters.len()
 }
 
 /// Returns the number of parameters that are not optional.
-fn required(parameters: &[ParameterReflection]) -> usize
+fn count_required(parameters: &[ParameterReflection]) -> usize
     ensures { result ≡ required (map (λ p. p.is_optional) parameters.now) }
 {
     let mut count = 0;
@@ -140,7 +140,7 @@ fn is_given(given: &[(&str, Expression)], name: &str) -> bool
 }
 
 /// Returns the arguments with owned names.
-fn owned_keywords(
+fn copy_keywords(
     alloc: Global,
     given: Vec<(&str, Expression)>,
 ) -> Result<Vec<(String, Expression)>, AllocError>

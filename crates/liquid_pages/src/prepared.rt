@@ -12,7 +12,7 @@ ghost use Rattle.liquid_pages.specs.steps.ReadShows.{ReadShows, StaysRead, Templ
 use crate::fault::{PageFault, PageText};
 use crate::gather::{PartialBytes, globals_in, partials_in, text_of};
 use crate::options::PageOptions;
-use crate::rendered::{Rendered, ended, nothing};
+use crate::rendered::{Rendered, nothing, page_answer};
 use crate::rendering::{PageTemplate, read_template, render_over_store, store_of};
 use liquid_error::Error;
 use liquid_parser::{Language, ParseBlock, ParseTag};
@@ -231,7 +231,7 @@ where
     *store = back;
     Rendered {
         output,
-        end: ended(answer),
+        end: page_answer(answer),
         stopped_by,
     }
 }

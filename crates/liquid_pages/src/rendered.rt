@@ -17,7 +17,7 @@ pub struct Rendered {
 }
 
 /// Returns how a page ends when its rendering ends in this way.
-pub(crate) fn ended(answer: Result<(), Error>) -> Result<(), PageFault>
+pub(crate) fn page_answer(answer: Result<(), Error>) -> Result<(), PageFault>
     ensures { result ≡ ended answer }
 {
     match answer {

@@ -1,7 +1,7 @@
 use Rattle.std.proofs.Common.{◌≡◌, ◌++◌, map}
 use Rattle.liquid_plugins.specs.meaning.ExpressionOf.{expression_of}
 use Rattle.liquid_extend.specs.meaning.Arguments.{pairs_of}
-use Rattle.liquid_extend.proofs.arguments.owned_pairs.Given as goal
+use Rattle.liquid_extend.proofs.arguments.copy_pairs.Given as goal
 
 abbrev pub invariant-loop-name : goal.invariant-loop-name
 invariant-loop-name l =

@@ -1,6 +1,6 @@
 use Rattle.std.proofs.Common.{◌≡◌, ◌+◌, ◌≤◌, drop, map}
 use Rattle.liquid_filters.specs.meaning.Calls.{required}
-use Rattle.liquid_filters.proofs.plugin.required.Given as goal
+use Rattle.liquid_filters.proofs.plugin.count_required.Given as goal
 
 abbrev pub invariant-loop-parameter : goal.invariant-loop-parameter
 invariant-loop-parameter l = record {

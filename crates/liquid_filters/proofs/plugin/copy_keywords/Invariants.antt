@@ -1,7 +1,7 @@
 use Rattle.std.proofs.Common.{◌≡◌, ◌++◌, map}
 use Rattle.liquid_plugins.specs.meaning.ExpressionOf.{expression_of}
 use Rattle.liquid_filters.specs.meaning.Calls.{named_expression}
-use Rattle.liquid_filters.proofs.plugin.owned_keywords.Given as goal
+use Rattle.liquid_filters.proofs.plugin.copy_keywords.Given as goal
 
 abbrev pub invariant-loop-name : goal.invariant-loop-name
 invariant-loop-name l =
