@@ -153,7 +153,7 @@ fn part_for(left: &Value) -> u64
     }
 }
 
-/// Returns the whole number of a value, if it is one.
+/// Returns the integer of a value, if it is one.
 fn number_of(value: &Value) -> Option<i64>
     ensures { result ≡ option_and_then to_integer (as_scalar (tree_of value.now)) }
 {

@@ -83,7 +83,7 @@ time_read : (t : Clock) (z : ℤ) → t.hour < 100 → t.minute < 100 → t.seco
 time_read t z h m s none hours minutes =
     rw (before_offset t z h m s, clock_read t h m s none, offset_read z hours minutes) refl
 
--- the bytes of a stamp are neither white space nor commas
+-- the bytes of a stamp are neither whitespace nor commas
 abbrev IsStampByte : ℕ → Type 0
 IsStampByte b = (43 ≤ b) × (b ≤ 84) × (b ≢ 44)
 

@@ -132,7 +132,7 @@ fn moment_in_text(alloc: Global, text: &str) -> Result<Option<DateTime>, AllocEr
     }
 }
 
-/// Returns `true` if a text is `now` or `today`, in any case and between white space.
+/// Returns `true` if a text is `now` or `today`, in any case and between whitespace.
 fn is_now(text: &str) -> bool
     ensures { IsTrue result ↔ IsNow text.now }
 {

@@ -54,7 +54,7 @@ pub past : (at : ℕ) (o : Option ℕ) → option_map (λ n. at + n) (option_map
 past at None = refl
 past at (Some n) = let sum : at + suc n ≡ (at + 1) + n = omega arith in ap Some sum
 
--- one turn outside of `{{ }}`, at a byte that is not white space; and one inside
+-- one turn outside of `{{ }}`, at a byte that is not whitespace; and one inside
 pub outside_turn : (text : List ℕ) (whole : Option ℕ) (at : ℕ) → at < length text → is_white (get_or text at 0) ≡ false
     → whole ≡ option_map (λ n. at + n) (name_len false (drop at text))
     → whole ≡ option_map (λ n. (at + 1) + n) (name_len (starts_with nat_eq (drop at text) (codes "{{")) (drop (at + 1) text))
@@ -75,7 +75,7 @@ inside_turn text whole at within held =
     ∙ past at (name_len (not (starts_with nat_eq (get_or text at 0 ∷ drop (at + 1) text) (codes "}}"))) (drop (at + 1) text))
     ∙ ap (λ s. option_map (λ n. (at + 1) + n) (name_len (not (starts_with nat_eq s (codes "}}"))) (drop (at + 1) text))) (sym split)
 
--- a name ends at white space
+-- a name ends at whitespace
 pub ends_at_white : (text : List ℕ) (whole : Option ℕ) (at : ℕ) → at < length text → is_white (get_or text at 0) ≡ true
     → whole ≡ option_map (λ n. at + n) (name_len false (drop at text)) → whole ≡ Some at
 ends_at_white text whole at within white held =

@@ -81,7 +81,7 @@ use Rattle.memchr.proofs.lemmas.MatchLemmas.{OccursAt-split}
 use Rattle.std.proofs.lemmas.List.Elements.{All-cons, All-head, All-nil, All-tail}
 use Rattle.liquid_strings.proofs.PlaceLemmas.{first_match}
 
--- a piece without a name to rewrite is written as it is where no white space is left out
+-- a piece without a name to rewrite is written as it is where no whitespace is left out
 as_it_is : (p : Piece) → TakesNoName p → written false [] p ≡ bytes_of p
 as_it_is (plain text) none = refl
 as_it_is (value inner) none = refl
@@ -91,7 +91,7 @@ as_it_is (tag inner body) none =
     let nothing : None ≡ new_body name said = no_name name said (ap (λ t. t && begins_name said) none) in
     ap (λ o. codes "{%" ++ (option_map_or (λ new. fitted (tag_of inner) new) o inner ++ (codes "%}" ++ body))) (sym nothing)
 
--- blocks of none of which the white space is left out
+-- blocks of none of which the whitespace is left out
 abbrev Writing : List Bool → Type 0
 Writing blocks = All (λ b. b ≡ false) blocks
 

@@ -1,4 +1,4 @@
-//! Blank blocks: those that write nothing. The white space in such an `if`, `unless`, `for` or `case` is not written.
+//! Blank blocks: those that write nothing. The whitespace in such an `if`, `unless`, `for` or `case` is not written.
 ghost use Rattle.std.specs.Prelude.{◌≡◌, map, reverse, IfOk, OnOk};
 ghost use Rattle.jekyll_source.specs.meaning.Blank as Spec;
 ghost use Rattle.jekyll_source.specs.steps.Parts.{marked_view, piece_view};
@@ -8,7 +8,7 @@ use crate::splits::ByteSet;
 use crate::tags::split_name;
 use std::alloc::{AllocError, Global};
 
-/// Returns the pieces, the last one first, each with whether it begins a block whose white space is left out.
+/// Returns the pieces, the last one first, each with whether it begins a block whose whitespace is left out.
 pub(crate) fn mark_blank<'t>(
     alloc: Global,
     pieces: Vec<Piece<'t>>,
@@ -80,7 +80,7 @@ pub(crate) fn go_after(
     Ok(())
 }
 
-/// Returns the white space that a tag takes from the rest of the pieces, the last one first.
+/// Returns the whitespace that a tag takes from the rest of the pieces, the last one first.
 pub(crate) fn taken_white<'t>(is_left_out: bool, rest: &[(Piece<'t>, bool)]) -> &'t str
     ensures { result.now ≡ Spec.taken_white is_left_out (map marked_view (reverse rest.now)) }
 {
@@ -90,7 +90,7 @@ pub(crate) fn taken_white<'t>(is_left_out: bool, rest: &[(Piece<'t>, bool)]) -> 
     }
 }
 
-/// Returns the piece if it is white space, and `""` otherwise.
+/// Returns the piece if it is whitespace, and `""` otherwise.
 fn white_of(piece: Piece<'_>) -> &str
     ensures { result.now ≡ Spec.white_of (piece_view piece.entry) }
 {
@@ -132,7 +132,7 @@ fn writes_nothing(piece: Piece<'_>) -> bool
     }
 }
 
-/// Returns `true` for the blocks whose white space is left out if they are blank.
+/// Returns `true` for the blocks whose whitespace is left out if they are blank.
 fn is_branching(name: &str) -> bool
     ensures { result ≡ Spec.is_branching name.now }
 {

@@ -63,7 +63,7 @@ fn is_start(start: Option<&str>, name: &str) -> bool
     }
 }
 
-/// Returns `true` if nothing but white space and perhaps a dash is before `%}`.
+/// Returns `true` if nothing but whitespace and perhaps a dash is before `%}`.
 fn closes(text: &str) -> bool
     ensures { result ≡ Spec.closes text.now }
 {

@@ -11,7 +11,7 @@ pub fn pieces_joined_are_the_text(text: &str)
     ensures { joined (pieces text.now) ≡ text.now }
 {}
 
-/// A text without tags that take a name and without blocks whose white space is left out is itself.
+/// A text without tags that take a name and without blocks whose whitespace is left out is itself.
 pub fn texts_without_names_are_untouched(text: &str)
     ensures { All TakesNoName (pieces text.now) → All LeavesNothingOut (marked (pieces text.now)) → jekyll_text text.now ≡ text.now }
 {}

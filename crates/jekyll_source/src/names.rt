@@ -15,7 +15,7 @@ use crate::splits::{
 use memchr::memmem;
 use std::alloc::{AllocError, Global};
 
-/// Returns the name with which a text begins, up to white space outside of `{{ }}`, and what follows it. Returns `None` if
+/// Returns the name with which a text begins, up to whitespace outside of `{{ }}`, and what follows it. Returns `None` if
 /// a `}}` is missing.
 pub(crate) fn split_name(text: &str) -> Option<(&str, &str)>
     ensures { option_map (λ p. (p.0.now, p.1.now)) result ≡ option_map (λ n. split_at n text.now) (Spec.name_len false text.now) }

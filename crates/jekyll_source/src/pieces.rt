@@ -111,7 +111,7 @@ pub(crate) fn split_pieces(alloc: Global, text: &str) -> Result<Vec<Piece<'_>>, 
     Ok(pieces)
 }
 
-/// Appends what is written for a piece, after which comes white space that it takes. White space isn't written where it is
+/// Appends what is written for a piece, after which comes whitespace that it takes. Whitespace isn't written where it is
 /// left out.
 pub(crate) fn push_piece(
     alloc: Global,
@@ -143,7 +143,7 @@ pub(crate) fn push_piece(
     Ok(())
 }
 
-/// Appends a tag, given what is between `{%` and `%}`, with white space at its end.
+/// Appends a tag, given what is between `{%` and `%}`, with whitespace at its end.
 fn push_widened(alloc: Global, out: &mut String, white: &str, inner: &str) -> Result<(), AllocError>
     ensures { OnOk result (string_bytes out.new ≡ string_bytes out.old ++ widened white.now inner.now) }
 {

@@ -12,7 +12,7 @@ use std::alloc::{AllocError, Global};
 ///
 /// Jekyll's authors write the names in the tags `include`, `include_relative`, `include_cached`, `link`, `post_url` and
 /// `highlight` without quotes. Each becomes a text literal, as `{% include "a/b.html" %}`, or if it has values in it, a list
-/// of parts, as `{% include < "a/" page.kind ".html" > %}`. A name is what is up to white space outside of `{{ }}`, and for
+/// of parts, as `{% include < "a/" page.kind ".html" > %}`. A name is what is up to whitespace outside of `{{ }}`, and for
 /// `link` all that the tag says. After the name of an inclusion, a backslash before the quote that a text is in is left out,
 /// and the text becomes a literal in the other quote. What is in quotes or begins with `<` stays, and so does what no literal
 /// can hold. The bodies of `raw` and `comment` stay too.
@@ -20,7 +20,7 @@ use std::alloc::{AllocError, Global};
 /// A tag that becomes longer takes the blanks before its `%}` and after its `{%`, and one that becomes shorter gets spaces.
 /// So each line stays where it is.
 ///
-/// An `if`, `unless`, `for` or `case` that writes nothing doesn't write its white space either: in each, the white space
+/// An `if`, `unless`, `for` or `case` that writes nothing doesn't write its whitespace either: in each, the whitespace
 /// that follows a tag moves to before the `%}` of that tag. An `Err` means out of memory.
 pub fn jekyll_text(alloc: Global, text: &str) -> Result<String, AllocError>
     ensures { IfOk result (λ t. string_bytes t ≡ Spec.jekyll_text text.now) }

@@ -292,7 +292,7 @@ not_now_first c cs low high now =
     apart : (c w : ℕ) → (c < w) → c ≡ w → ⊥
     apart c w h e = omega arith
 
--- nor a whole number: a `-` is after the year
+-- nor an integer: a `-` is after the year
 four_no_number : (a b c d : ℕ) (rest : List ℕ) → ¬ (AllDigits 10 (a ∷ b ∷ c ∷ d ∷ 45 ∷ rest))
 four_no_number a b c d rest h = omega (arith, h.1.1.1.1.0)
 

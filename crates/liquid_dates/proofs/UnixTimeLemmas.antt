@@ -70,7 +70,7 @@ pub not_empty : (text : List ℕ) → nat_eq (length text) 0 ≡ false → text 
 not_empty [] e = λ _. cc
 not_empty (c ∷ cs) e = λ f. cc
 
--- a text that is read as a whole number
+-- a text that is read as an integer
 pub whole_text : (text : List ℕ) (moment : DateTime) (z : ℤ) (o : Option DateTime) → text ≢ [] → ¬ (IsNow text) → IsWholeNumber text z
     → IfSome o (λ dt. IsUnixTime z dt) → IfSome o (λ dt. IsDateTimeText text moment dt)
 whole_text text moment z None full apart number h = h

@@ -206,7 +206,7 @@ fn first_date_time(given: bool, text: &[u8]) -> Option<DateTime>
     }
 }
 
-// Returns `true` if a text is `now` or `today`, in any case and between white space.
+// Returns `true` if a text is `now` or `today`, in any case and between whitespace.
 fn is_now(text: &str) -> bool
     ensures { IsTrue result ↔ IsNow text.now }
 {
@@ -236,7 +236,7 @@ fn in_nanoseconds(seconds: i64) -> i128
 impl DateTime {
     /// Returns the date time that a text writes.
     ///
-    /// `now` and `today` are the moment, in any case and between white space. A whole number is the seconds since 1970
+    /// `now` and `today` are the moment, in any case and between whitespace. An integer is the seconds since 1970
     /// at offset 0. Any other text is one of `YYYY-MM-DD HH:MM:SS off`, `YYYY-MM-DD HH:MM:SS.fraction off`,
     /// `DD Month YYYY HH:MM:SS off`, `DD Mon YYYY HH:MM:SS off`, `MM/DD/YYYY HH:MM:SS off` and
     /// `Www Mon D HH:MM:SS YYYY off`, and ` +0000` is added to a text that ends in no offset below 20 hours.

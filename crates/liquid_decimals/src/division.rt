@@ -41,7 +41,7 @@ impl Decimal {
         quotient(self.mantissa < 0, magnitude, ten_to(self.scale), scale)
     }
 
-    /// Returns the nearest multiple of ten to this power, a whole number; a half is rounded away from zero. Returns `None`
+    /// Returns the nearest multiple of ten to this power, an integer; a half is rounded away from zero. Returns `None`
     /// if it is no `i64`.
     pub fn round_to_power(self, power: u64) -> Option<Decimal>
         ensures { option_map dec result ≡ round_to_power power (dec self) }
@@ -55,14 +55,14 @@ impl Decimal {
         multiple_of_power(self.mantissa < 0, multiples, power)
     }
 
-    /// Returns the greatest whole number that is not above this number.
+    /// Returns the greatest integer that is not above this number.
     pub fn floor(self) -> i64
         ensures { result ≡ floor (dec self) }
     {
         self.mantissa.div_euclid(unit(self.scale))
     }
 
-    /// Returns the least whole number that is not below this number.
+    /// Returns the least integer that is not below this number.
     pub fn ceil(self) -> i64
         ensures { result ≡ ceil (dec self) }
     {
@@ -100,7 +100,7 @@ fn quotient(minus: bool, dividend: u128, divisor: u128, scale: u32) -> Option<De
     }
 }
 
-/// Returns the whole number nearest to the quotient of a magnitude.
+/// Returns the integer nearest to the quotient of a magnitude.
 fn whole_quotient(dividend: u128, divisor: u128) -> u128
     requires positive { 0 < divisor }
     requires dividend { dividend ≤ 2 ^ 63 }

@@ -18,7 +18,7 @@ impl Decimal {
         Some(Decimal { mantissa, scale })
     }
 
-    /// Returns a whole number as a decimal without digits after the point.
+    /// Returns an integer as a decimal without digits after the point.
     pub fn from_whole(number: i64) -> Decimal
         ensures { dec result ≡ (number, 0) }
     {

@@ -63,7 +63,7 @@ pub none_left_far : {A : Type 0} {f : Reader A} {R : Rule A} {M : Misses} → Ex
     → None ≡ option_map (λ p. p.1) (f s) → IsFarthest (After R M) s None
 none_left_far exact s e = no_after s (left_nothing exact s e)
 
--- a separator between white space is missing
+-- a separator between whitespace is missing
 pub no_separator : {M : Misses} (separator : ℕ) (s place : List ℕ) (part : Part) (r : Option Stop)
     → Some place ≡ option_map (λ p. p.1) (white s) → None ≡ option_map (λ p. p.1) (byte separator place)
     → r ≡ Some (stop_at (length place) (only part)) → IsFarthest (Separated separator part M) s r
@@ -71,7 +71,7 @@ no_separator separator s place part r w e is =
     let none = left_nothing (exact-byte separator) place e in
     left_far exact-white s place r w (first_far place r (wants_far place part r is none) (no_after place none))
 
--- something is missing after a separator between white space
+-- something is missing after a separator between whitespace
 pub after_separator : {M : Misses} (separator : ℕ) (s place after start : List ℕ) (part : Part) (r : Option Stop)
     → Some place ≡ option_map (λ p. p.1) (white s) → Some after ≡ option_map (λ p. p.1) (byte separator place)
     → Some start ≡ option_map (λ p. p.1) (white after) → IsFarthest M start r → IsFarthest (Separated separator part M) s r
@@ -118,7 +118,7 @@ following_ends separator s start rest shape e match =
       };
     }
 
--- the same for a token after white space
+-- the same for a token after whitespace
 pub no_spaced : {A : Type 0} {R : Rule A} (s place : List ℕ) → Some place ≡ option_map (λ p. p.1) (white s) → ¬ (Begins R place)
     → ¬ (Begins (White ▷ R) s)
 no_spaced {R = R} s place e none b =

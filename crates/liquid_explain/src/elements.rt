@@ -62,7 +62,7 @@ fn named_stop(s: &str) -> Option<Stop>
     }
 }
 
-/// Returns what follows the braces, a dash if there is one, and white space.
+/// Returns what follows the braces, a dash if there is one, and whitespace.
 #[tactic(auto, unfolding(crate::specs::steps::Opened::opened, liquid_grammar::specs::steps::Steps::braces))]
 fn after_braces(s: &str, kind: u8) -> Option<&str>
     requires { kind < 128 }

@@ -155,7 +155,7 @@ fn keyword_stop(s: &str) -> Option<Stop>
     }
 }
 
-/// Returns what follows a separator between white space.
+/// Returns what follows a separator between whitespace.
 fn match_separator(s: &str, separator: u8) -> Option<&str>
     requires { separator < 128 }
     ensures value { Leaves result (read.separated separator s.now) }

@@ -116,7 +116,7 @@ fn start_stop(s: &str) -> Option<Stop>
     }
 }
 
-/// Returns what follows `(` and white space.
+/// Returns what follows `(` and whitespace.
 #[tactic(auto, unfolding(liquid_grammar::specs::steps::TokenSteps::range_start))]
 fn range_start(s: &str) -> Option<&str>
     ensures { Leaves result (read.range_start s.now) }

@@ -29,7 +29,7 @@ pub(crate) fn eat(s: &str, byte: u8) -> Option<&str>
     }
 }
 
-/// Returns what follows white space.
+/// Returns what follows whitespace.
 pub(crate) fn skip_white(s: &str) -> &str
     ensures value { Leaves (Some result) (read.white s.now) }
     ensures shorter { length result.now ≤ length s.now }
@@ -87,7 +87,7 @@ fn after_quote(s: &str) -> Option<&str>
     }
 }
 
-/// Returns what follows `[` and white space.
+/// Returns what follows `[` and whitespace.
 #[tactic(auto, unfolding(liquid_grammar::specs::steps::TokenSteps::open_bracket))]
 fn open_bracket(s: &str) -> Option<&str>
     ensures { Leaves result (bracket.open_bracket s.now) }
@@ -118,7 +118,7 @@ fn bracket_stop(inside: &str) -> Option<Stop>
     }
 }
 
-/// Returns where a byte is missing after white space.
+/// Returns where a byte is missing after whitespace.
 pub(crate) fn byte_stop(s: &str, byte: u8, part: Part) -> Option<Stop>
     requires { byte < 128 }
     ensures { IsFarthest (After White (Wants (Byte byte) part)) s.now result }

@@ -50,7 +50,7 @@ use Rattle.liquid_strings.specs.meaning.Split.{words}
 use Rattle.liquid_strings.proofs.WordLemmas.{is_one_word, space_parts_words}
 use Rattle.liquid_filters.specs.laws.string.Words.{FirstWordsAreKept}
 
--- characters without white space
+-- characters without whitespace
 abbrev IsPart : List ℕ → Type 0
 IsPart cs = NonePass is_whitespace cs × (scalars cs ≡ true)
 

@@ -32,6 +32,6 @@ rounded-none n (negsuc d) fits low far =
 pub round_past : (s : ℕ) (d : Dec) → 18 < s → None ≡ round s d
 round_past s d h = grind (arith, nat_tests)
 
--- a decimal without digits after the point is rounded as a whole number
+-- a decimal without digits after the point is rounded as an integer
 pub whole_rounded : (d : Dec) (n : ℤ) → is_whole d ≡ true → rounded_number d n ≡ limited (fits (rounded d.0 n))
 whole_rounded d n h = rw h refl

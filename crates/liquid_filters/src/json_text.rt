@@ -12,7 +12,7 @@ use liquid_value::{Array, Object, Value};
 use serde_json::Value as Json;
 use std::alloc::{AllocError, Global};
 
-/// Returns the input as JSON without white space.
+/// Returns the input as JSON without whitespace.
 pub fn json(alloc: Global, input: &Value) -> Result<Value, Error>
     ensures { Gives tree_of result (Ok (as_json (tree_of input.now))) }
 {

@@ -26,7 +26,7 @@ found {f = f} {R = R} F s rest e =
     let x = left_some (f s) rest e in
     (x.0.0, subst (λ t. R s t x.0.0) x.2 (F.sound s x.0.1 x.0.0 x.1))
 
--- white space, a bar and white space
+-- whitespace, a bar and whitespace
 bar_between : (s at following place : List ℕ) → Some at ≡ option_map (λ p. p.1) (white s)
     → Some following ≡ option_map (λ p. p.1) (byte 124 at) → Some place ≡ option_map (λ p. p.1) (white following)
     → Some place ≡ option_map (λ p. p.1) (separated 124 s)
@@ -127,7 +127,7 @@ endless s start end c o m none b =
           };
     }))
 
--- where an expression opens but there is none, the element is the white space and one brace
+-- where an expression opens but there is none, the element is the whitespace and one brace
 pub opens_invalid : (s start : List ℕ) → OpensExpression s start → ¬ (Begins ExpressionRule s) → (following text : List ℕ)
     × IsElement s following (invalid text)
 opens_invalid s start o none =

@@ -109,7 +109,7 @@ opener_brace kind s rest b (instead h m) =
     let e = braces_front kind s rest b m in
     lone_brace_from s s m.match.middle [] m.from.0 (ends (not_white s e.0 e.1)) m.match.before
 
--- an opener has a brace after its white space
+-- an opener has a brace after its whitespace
 pub brace_begins : (s : List ℕ) → Opens s → Begins LoneBrace s
 brace_begins s o = go o.match
   where

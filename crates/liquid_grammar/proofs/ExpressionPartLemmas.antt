@@ -104,7 +104,7 @@ first_of s rest byte b t e dash brace (instead none m) =
     let is : (b == 125) ≡ true = subst (λ x. (x == 125) ≡ true) (same_byte s _ _ _ b first.front e) first.passes in
     cc (is, brace)
 
--- nothing that begins with another byte is a closer, after white space or none
+-- nothing that begins with another byte is a closer, after whitespace or none
 closes_by : (s rest t : List ℕ) (b : ℕ) → s ≡ b ∷ t → is_white b ≡ false → (b == 45) ≡ false → (b == 125) ≡ false
     → ClosesExpression s rest → ⊥
 closes_by s rest t b e black dash brace c = go c.match.match.middle c.match.from.0 c.match.match.before c.match.match.after

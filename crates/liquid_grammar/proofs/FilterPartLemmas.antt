@@ -54,7 +54,7 @@ use Rattle.liquid_grammar.proofs.TokenExact.{exact-following, exact-filter, exac
 use Rattle.liquid_grammar.proofs.PartLemmas.{first_part, none_left, after_begins, none_before, none_after, head_found}
 use Rattle.liquid_grammar.proofs.HeadLemmas.{literal_of_word, name_of_word, literal_without_word, no_name}
 
--- a separator between white space
+-- a separator between whitespace
 abbrev Separated : ℕ → Rule (List ℕ)
 Separated byte = White ▷ Byte byte ▷ White
 

@@ -266,7 +266,7 @@ no_symbol_at_parenthesis s b first h =
 pub no_rest : (s : List ℕ) → symbol_of s ≡ None → None ≡ option_map (λ p. p.1) (symbol_of s)
 no_rest s e = sym (ap (option_map (λ p. p.1)) e)
 
--- a filter begins with `|` after white space
+-- a filter begins with `|` after whitespace
 pub bar_after : (s place : List ℕ) → Some place ≡ option_map (λ p. p.1) (white s) → (slice_index place 0 == 124) ≡ begins_filter s
 unfolding white
 bar_after s place e = ap (λ t. slice_index t 0 == 124) (same_Some _ _ e)

@@ -74,7 +74,7 @@ use Rattle.liquid_grammar.proofs.GrammarExact.{is_some-map, exact-any_opener}
 abbrev pub opens : List ℕ → Bool
 opens s = is_some (any_opener s)
 
--- a dashed opener begins here, after any white space
+-- a dashed opener begins here, after any whitespace
 abbrev pub dashed : List ℕ → Bool
 dashed s = is_some (dashed_opener 123 s) || is_some (dashed_opener 37 s)
 
@@ -103,7 +103,7 @@ dashed_shape : (before : List ℕ) (o : Option (ℕ × List ℕ))
 dashed_shape before (Some x) = refl
 dashed_shape before None = refl
 
--- a dashed opener begins where its braces follow white space
+-- a dashed opener begins where its braces follow whitespace
 dashed_after : (kind : ℕ) (s : List ℕ) → is_some (dashed_opener kind s) ≡ marked kind (drop (prefix_len is_white s) s)
 unfolding dashed_opener white
 dashed_after kind s = dashed_shape (take (prefix_len is_white s) s) (braces kind (drop (prefix_len is_white s) s))
@@ -349,7 +349,7 @@ passed_brace s from at l h p none e other =
     let b : slice_index s at ≡ 123 = eqb-true (slice_index s at) 123 e in
     passed_other s (white_start s from (at - from)) at h (passed_to s from at l (omega (arith, h)) p none) (ap is_white b) other
 
--- the white space before an index begins where the byte before it is not white, or at `from`
+-- the whitespace before an index begins where the byte before it is not white, or at `from`
 pub white_start_less : (s : List ℕ) (from at : ℕ) → from < at → is_white (slice_index s (at - 1)) ≡ true
     → white_start s from (at - from) ≡ white_start s from (at - 1 - from)
 unfolding white_start
@@ -415,7 +415,7 @@ ends_at_braces s white at h p e other =
     ] in
     ends_at s at h closed (t.0 ∙ e)
 
--- braces with a dash end it before their white space
+-- braces with a dash end it before their whitespace
 pub ends_at_white : (s : List ℕ) (white at : ℕ) → at < length s → Passed s white at → begins_braces s at ≡ true
     → slice_index s (at + 2) ≡ 45 → EndsRaw s white
 ends_at_white s white at h p e same =

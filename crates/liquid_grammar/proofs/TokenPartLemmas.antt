@@ -115,7 +115,7 @@ no_token s none chainless symbolless b = go b.match
     go (instead _ (instead _ m)) = none_begins exact-symbol s (left_none (symbol_of s) symbolless)
         (record { rest = b.rest; shape = m.from.what; match = m.match.match })
 
--- the tokens from here on begin with the one after the white space
+-- the tokens from here on begin with the one after the whitespace
 pub no_token_first : (s place rest : List ℕ) (tokens : List Token) → Some place ≡ option_map (λ p. p.1) (white s)
     → ¬ (Begins TokenRule place) → Repeated (White ▷ TokenRule) s rest tokens → NoneLeft s rest tokens
 no_token_first s place rest tokens e none m = none_left s rest tokens m (none_after exact-white s place e none)

@@ -146,7 +146,7 @@ fn depth_fault<'a>(place: &'a str, depth: usize) -> Option<Fault<'a>>
     }
 }
 
-/// Returns what follows `[` and white space.
+/// Returns what follows `[` and whitespace.
 #[tactic(auto, unfolding(crate::specs::steps::TokenSteps::open_bracket))]
 pub(crate) fn open_bracket(s: &str) -> Option<&str>
     ensures value { Leaves result (read.open_bracket s.now) }
@@ -155,7 +155,7 @@ pub(crate) fn open_bracket(s: &str) -> Option<&str>
     Some(skip_white(eat(s, b'[')?))
 }
 
-/// Returns what follows white space and `]`.
+/// Returns what follows whitespace and `]`.
 #[tactic(auto, unfolding(crate::specs::steps::TokenSteps::close_bracket))]
 pub(crate) fn close_bracket(s: &str) -> Option<&str>
     ensures value { Leaves result (read.close_bracket s.now) }

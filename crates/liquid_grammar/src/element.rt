@@ -47,7 +47,7 @@ pub enum Element<'a> {
     Raw(&'a str),
     Tag(TagText<'a>),
     Expression(ChainText<'a>),
-    /// The white space and one `{` of an opener that begins neither a tag nor an expression.
+    /// The whitespace and one `{` of an opener that begins neither a tag nor an expression.
     Invalid(&'a str),
 }
 
@@ -105,7 +105,7 @@ fn opener_element<'a>(s: &'a str) -> (Element<'a>, &'a str)
     }
 }
 
-/// Returns white space with one `{`, and what follows them.
+/// Returns whitespace with one `{`, and what follows them.
 #[tactic(auto, unfolding(crate::specs::steps::Steps::lone_brace, crate::specs::steps::Steps::white))]
 fn lone_brace(s: &str) -> Option<(&str, &str)>
     ensures { Splits result (read.lone_brace s.now) }

@@ -63,7 +63,7 @@ fn match_filters<'a>(
     }
 }
 
-/// Returns `true` if `|` comes next after white space, as before each filter.
+/// Returns `true` if `|` comes next after whitespace, as before each filter.
 #[inline]
 fn begins_filter(s: &str) -> bool
     ensures { result ≡ read.begins_filter s.now }
@@ -153,7 +153,7 @@ fn keyword<'a>(s: &'a str) -> Option<(Option<Fault<'a>>, &'a str)>
     value(keyword_start(s)?.1)
 }
 
-/// Returns the identifier before `:`, and what follows the colon and its white space.
+/// Returns the identifier before `:`, and what follows the colon and its whitespace.
 #[tactic(auto, unfolding(crate::specs::steps::TokenSteps::keyword_start))]
 fn keyword_start(s: &str) -> Option<(&str, &str)>
     ensures value { Splits result (read.keyword_start s.now) }
@@ -163,7 +163,7 @@ fn keyword_start(s: &str) -> Option<(&str, &str)>
     Some((name, skip_white(eat(skip_white(rest), b':')?)))
 }
 
-/// Returns what follows a separator between white space.
+/// Returns what follows a separator between whitespace.
 pub(crate) fn following(s: &str, separator: u8) -> Option<&str>
     requires { separator < 128 }
     ensures value { Leaves result (read.separated separator s.now) }

@@ -87,7 +87,7 @@ fn number(s: &str) -> Option<(Literal, &str)>
     }
 }
 
-/// Returns the whole number that the text begins with, with the fraction after it if there is one.
+/// Returns the integer that the text begins with, with the fraction after it if there is one.
 fn longest_number(s: &str) -> Option<(Literal, &str)>
     ensures value { FindsLiteral result (read.longest_number s.now) }
     ensures shorter { IfSome result (λ x. length x.1.now < length s.now) }

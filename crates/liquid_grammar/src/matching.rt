@@ -18,7 +18,7 @@ use crate::text::split_white;
 use crate::token::{expression, tag, token};
 use crate::value::{index, value, variable};
 
-/// Returns the white space that the text begins with, and what follows it.
+/// Returns the whitespace that the text begins with, and what follows it.
 pub fn match_white(s: &str) -> (&str, &str)
     ensures value { White s.now result.1.now result.0.now }
     ensures within { length result.1.now ≤ length s.now }

@@ -85,7 +85,7 @@ pub struct TokenText<'a> {
     pub rest: &'a str,
 }
 
-/// Returns what follows `{{`, the dash after it if there is one, and white space. Returns `None` if the text doesn't
+/// Returns what follows `{{`, the dash after it if there is one, and whitespace. Returns `None` if the text doesn't
 /// begin with `{{`.
 pub fn expression_start(s: &str) -> Option<&str>
     ensures opens { IfSome result (λ start. OpensExpression s.now start.now) }
@@ -98,7 +98,7 @@ pub fn expression_start(s: &str) -> Option<&str>
     }
 }
 
-/// Returns what follows an expression's end and the white space before it. Returns `None` if no expression ends here.
+/// Returns what follows an expression's end and the whitespace before it. Returns `None` if no expression ends here.
 pub fn expression_end(s: &str) -> Option<&str>
     ensures closes { IfSome result (λ rest. ClosesExpression s.now rest.now) }
     ensures shorter { IfSome result (λ rest. length rest.now < length s.now) }
@@ -140,7 +140,7 @@ pub fn next_index<'a>(s: &'a str, depth: usize) -> Option<(IndexStart<'a>, &'a s
     }
 }
 
-/// Returns what follows a close bracket and the white space before it.
+/// Returns what follows a close bracket and the whitespace before it.
 pub fn close_bracket(s: &str) -> Option<&str>
     ensures found { MatchOption result (¬ (Begins CloseBracket s.now)) (λ rest. (byte : ℕ) × CloseBracket s.now rest.now byte) }
     ensures only { (rest : List ℕ) (byte : ℕ) → CloseBracket s.now rest byte → MatchOption result ⊥ (λ after. after.now ≡ rest) }
@@ -164,7 +164,7 @@ pub fn next_filter(s: &str) -> Option<FilterStart<'_>>
 /// Returns the beginning of the next filter of an expression's chain, or the expression's end. Returns `None` if
 /// neither is here.
 ///
-/// The white space before both is walked once.
+/// The whitespace before both is walked once.
 pub fn chain_step(s: &str) -> Option<ChainStep<'_>>
     ensures only { (rest : List ℕ) (filters : List Filter) → Repeated (Following bar FilterRule) s.now rest filters
         → MatchOption result (Unclosed s.now rest filters) (λ step. IsStep s.now step rest filters) }

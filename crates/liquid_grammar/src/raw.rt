@@ -10,7 +10,7 @@ use memchr::memchr;
 
 /// Returns the number of bytes before the first place where an opener begins, or of all bytes.
 ///
-/// The bytes between two open braces are passed once, by vectors, and those of the white space before a dashed opener
+/// The bytes between two open braces are passed once, by vectors, and those of the whitespace before a dashed opener
 /// once more.
 pub(crate) fn raw_len(s: &str) -> usize
     ensures within { result ≤ length s.now }
@@ -24,7 +24,7 @@ pub(crate) fn raw_len(s: &str) -> usize
     let mut from = 0;
     'braces: while let Some(brace) = next_brace(bytes, from) {
         if begins_braces(bytes, brace) {
-            // White space before an opener belongs to the opener if a dash follows the braces.
+            // Whitespace before an opener belongs to the opener if a dash follows the braces.
             if byte_at(bytes, brace + 2) == b'-' {
                 return white_start(bytes, from, brace);
             }
@@ -45,7 +45,7 @@ fn next_brace(bytes: &[u8], from: usize) -> Option<usize>
     Some(from + brace)
 }
 
-/// Returns where the white space that ends at `end` begins, not before `from`.
+/// Returns where the whitespace that ends at `end` begins, not before `from`.
 fn white_start(bytes: &[u8], from: usize, end: usize) -> usize
     requires order { from ≤ end }
     requires fits { end ≤ length bytes.now }

@@ -22,7 +22,7 @@ pub(crate) fn eat(s: &str, byte: u8) -> Option<&str>
     }
 }
 
-/// Returns the white space that the text begins with, and what follows it.
+/// Returns the whitespace that the text begins with, and what follows it.
 #[inline]
 #[tactic(auto, unfolding(crate::specs::steps::Steps::white))]
 pub(crate) fn split_white(s: &str) -> (&str, &str)
@@ -32,7 +32,7 @@ pub(crate) fn split_white(s: &str) -> (&str, &str)
     s.split_at(white_len(s.as_bytes()))
 }
 
-/// Returns what follows white space.
+/// Returns what follows whitespace.
 #[inline]
 pub(crate) fn skip_white(s: &str) -> &str
     ensures value { Leaves (Some result) (read.white s.now) }

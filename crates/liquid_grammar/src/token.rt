@@ -82,7 +82,7 @@ fn expression_start(s: &str) -> Option<&str>
     Some(skip_white(opener(s, b'{')?))
 }
 
-/// Matches all tokens, each after white space or none. Returns their first fault and what follows them.
+/// Matches all tokens, each after whitespace or none. Returns their first fault and what follows them.
 fn tokens<'a>(s: &'a str) -> (Option<Fault<'a>>, &'a str)
     ensures value { Scans (first_fault token_fault) (Some result) (read.repeated (step.right step.white read.token) s.now) }
     ensures shorter { length result.1.now ≤ length s.now }

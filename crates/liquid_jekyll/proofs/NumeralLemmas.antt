@@ -1,4 +1,4 @@
--- Where white space and a numeral end.
+-- Where whitespace and a numeral end.
 use Rattle.std.proofs.Common.{◌≡◌, ℕ, zero, suc, ◌+◌, ◌-◌, ◌<◌, ◌≤◌, Bool, true, List, length, drop, get_or, sym, ap, ◌∙◌, arith, subst, length-drop, reverse}
 use Rattle.std.specs.List.{prefix_len}
 use Rattle.std.specs.Str.{IsCharBoundary, IsUtf8}
@@ -42,7 +42,7 @@ starts_words text (suc k) utf8 is =
     (cut_after is_space space_is_ascii text 0 (suc k) utf8 (omega arith)
     (omega (arith, prefix_len-le-length is_space text)) (omega arith))
 
--- what is before white space at the end
+-- what is before whitespace at the end
 pub ends_words : (text : List ℕ) (n : ℕ) → n ≡ prefix_len is_space (reverse text) → IsCharBoundary text (length text - n)
 ends_words text zero is = subst (λ i. IsCharBoundary text i) (omega arith) (IsCharBoundary-end text)
 ends_words text (suc k) is =

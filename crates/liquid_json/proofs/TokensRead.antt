@@ -175,7 +175,7 @@ put_made k d t (read.member l e ds) ts is done =
     (member_made l e p.0 (put k d ds) (put_member k t p.1) p.2 (put_made k d t ds p.1 is p.3)) in
     all ∙ ap (λ us. Ok (put_member k t us)) p.4
 
--- ---- a signed whole number of 64 bits is given as itself
+-- ---- a signed integer of 64 bits is given as itself
 
 pub whole_given : (n : ℤ) → SFits w64 n → value_given (read.number (of_integer n)) ≡ Ok (scalar (integer n))
 whole_given (pos n) fits = rw (lt-ltb n (2 ^ 63) (grind arith)) refl

@@ -13,10 +13,10 @@ use liquid_value::{Array, Object, SharedObject, Value};
 use serde_json::{Map, Value as Json};
 use std::alloc::Global;
 
-/// Returns the value of JSON: null is nil, and truth values, texts, arrays and objects are the values of their kind.
+/// Returns the value of JSON: null is nil, and booleans, texts, arrays and objects are the values of their kind.
 /// Texts are copied.
 ///
-/// A whole number from 2^63 to 2^64 - 1 is the error "Cannot fit number", and a number that is kept as a float is
+/// An integer from 2^63 to 2^64 - 1 is the error "Cannot fit number", and a number that is kept as a float is
 /// "Fractional number". The first error is returned: items are converted in order, and members in the order of their
 /// keys.
 pub fn to_value(alloc: Global, json: &Json) -> Result<Value>

@@ -165,7 +165,7 @@ fn read_members(alloc: Global, reader: &mut Reader<'_>, depth: usize) -> Result<
     Ok(object)
 }
 
-/// Returns the whole number that a token of JSON writes, if it is a signed one of 64 bits. `-0` is not.
+/// Returns the integer that a token of JSON writes, if it is a signed one of 64 bits. `-0` is not.
 fn whole_number(text: &str) -> Option<i64>
     ensures { IfSome result (λ n. number_of text.now ≡ Some (of_integer n)) }
 {

@@ -10,9 +10,9 @@ use liquid_scalar::Scalar;
 use serde_json::{Number, Value as Json};
 use std::alloc::Global;
 
-/// Returns the scalar of a truth value, a text or a whole number. A text is copied.
+/// Returns the scalar of a boolean, a text or an integer. A text is copied.
 ///
-/// A whole number from 2^63 to 2^64 - 1 is the error "Cannot fit number", and a number that is kept as a float is
+/// An integer from 2^63 to 2^64 - 1 is the error "Cannot fit number", and a number that is kept as a float is
 /// "Fractional number". Null, an array and an object are "Scalar must be a string.".
 pub fn to_scalar(alloc: Global, json: &Json) -> Result<Scalar>
     ensures { Gives (scal string_bytes) result (scalar_given (json_view json.now)) }
@@ -27,7 +27,7 @@ pub fn to_scalar(alloc: Global, json: &Json) -> Result<Scalar>
     }
 }
 
-/// Returns the whole number that a number is. Fails for one past 2^63 - 1, and for every other number.
+/// Returns the integer that a number is. Fails for one past 2^63 - 1, and for every other number.
 pub(crate) fn integer(alloc: Global, number: &Number) -> Result<i64>
     ensures { Gives (λ (n : ℤ). n) result (number_given (number_view number.now)) }
 {

@@ -17,7 +17,7 @@ use std::alloc::{AllocError, Global};
 
 /// Returns the JSON that shows a value.
 ///
-/// A scalar with a `to_integer` is that number, so the text `42` is the number 42. A truth value is itself, and every
+/// A scalar with a `to_integer` is that number, so the text `42` is the number 42. A boolean is itself, and every
 /// other scalar is its text. Arrays and objects are converted item by item. States and nil are null.
 #[cycle(write)]
 pub fn from_value(alloc: Global, value: &Value) -> Result<Json, AllocError>

@@ -62,7 +62,7 @@ invalid_text x source following (raw text) m = absurd m
 invalid_text x source following (tag_element t text) m = absurd m
 invalid_text x source following (expression c text) m = absurd m
 
--- what is neither a tag nor an expression has its brace after its white space
+-- what is neither a tag nor an expression has its brace after its whitespace
 pub lone_brace_at : (s following text brace white : List ℕ) → IsElement s following (invalid text) → White s brace white → brace ≡ 123
     ∷ following
 lone_brace_at s following text brace white is w =

@@ -58,7 +58,7 @@ rule_after (here m) = ap after_of m.is ∙ m.match.ends
 rule_after (instead none (here m)) = ap after_of m.is ∙ m.match.ends
 rule_after (instead none (instead none' m)) = ap after_of m.is ∙ m.match.ends
 
--- if no token begins after the white space, there are none
+-- if no token begins after the whitespace, there are none
 pub no_tokens : {s following rest white : List ℕ} {ts : List Token} → White s rest white → ¬ (Begins TokenRule rest)
     → Repeated (White ▷ TokenRule) s following ts → ts ≡ []
 no_tokens w none (ends n) = refl

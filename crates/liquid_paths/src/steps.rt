@@ -36,7 +36,7 @@ pub fn step<'v>(
     }
 }
 
-/// Returns the member of an object at a text, or the item of an array at a whole number. It takes no memory.
+/// Returns the member of an object at a text, or the item of an array at an integer. It takes no memory.
 ///
 /// If it returns `None`, a step by the index may still lead somewhere: to a size, to `first` or `last`, or by a scalar
 /// of another kind.

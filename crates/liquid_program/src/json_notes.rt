@@ -27,7 +27,7 @@ pub(crate) fn note_of_text(alloc: Global, text: &str, error: &Error) -> String {
     note.unwrap_or(String::new(alloc))
 }
 
-/// Returns the path in an object of JSON to the first number that is not a whole number of 64 bits, after the word `at`.
+/// Returns the path in an object of JSON to the first number that is not an integer of 64 bits, after the word `at`.
 /// Returns nothing if there is no such number, if numbers may be decimals, or if memory runs out.
 pub(crate) fn note_of_number(alloc: Global, decimals: bool, text: &str) -> String {
     if decimals {
@@ -52,7 +52,7 @@ fn unfit_number(alloc: Global, text: &str) -> Result<Option<String>, AllocError>
     }
 }
 
-/// Returns the path within a value to its first number that is not a whole number of 64 bits.
+/// Returns the path within a value to its first number that is not an integer of 64 bits.
 #[cycle(path)]
 fn path_of_unfit(alloc: Global, json: &Json) -> Result<Option<String>, AllocError> {
     match json {

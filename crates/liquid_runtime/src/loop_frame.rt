@@ -139,7 +139,7 @@ fn bind(names: &mut Object, name: String, value: Value) -> Result<(), AllocError
     Ok(())
 }
 
-/// Returns a count as a value, if it is a whole number of one.
+/// Returns a count as a value, if it is an integer of one.
 fn number(count: u64) -> Option<Value>
     ensures { IfSome result (λ value. tree_of value ≡ place_tree count) }
 {

@@ -1,4 +1,4 @@
--- What `parse` reads as an `i64` is the whole number that the text writes.
+-- What `parse` reads as an `i64` is the integer that the text writes.
 use Rattle.std.proofs.Common.{
   ◌≡◌,
   ℕ,

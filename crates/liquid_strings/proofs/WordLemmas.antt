@@ -72,7 +72,7 @@ white c e = by (is_whitespace c) e
 words_after_white : (c : ℕ) (cs : List ℕ) → is_whitespace c ≡ true → words_of (c ∷ cs) ≡ words_of cs
 words_after_white c cs e = ap (filter is_word) (slice_split-cons_yes is_whitespace c cs e)
 
--- white space before words, and alone
+-- whitespace before words, and alone
 words_after_gap : (gap cs : List ℕ) → NonePass is_not_whitespace gap → words_of (gap ++ cs) ≡ words_of cs
 words_after_gap [] cs none = refl
 words_after_gap (g ∷ gap) cs none = words_after_white g (gap ++ cs) (white g none.0) ∙ words_after_gap gap cs none.1
@@ -81,7 +81,7 @@ none_in_all : (cs : List ℕ) → NonePass is_whitespace cs → All (λ c. is_wh
 none_in_all [] none = All-nil (λ c. is_whitespace c ≡ false)
 none_in_all (c ∷ cs) none = All-cons (λ c. is_whitespace c ≡ false) c cs none.0 (none_in_all cs none.1)
 
--- a word before white space, and at the end
+-- a word before whitespace, and at the end
 kept : (w : List ℕ) (ws : List (List ℕ)) → 0 < length w → filter is_word (w ∷ ws) ≡ w ∷ filter is_word ws
 kept w ws more = cond-true _ _ _ (lt-ltb 0 (length w) more)
 

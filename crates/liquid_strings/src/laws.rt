@@ -28,7 +28,7 @@ pub fn stripped_texts_have_no_tag()
     ensures { StrippedTextsHaveNoTag }
 {}
 
-/// A white space character parts the words before it from those after it, and a text without white space is one word,
+/// A whitespace character parts the words before it from those after it, and a text without whitespace is one word,
 /// if it is not empty.
 pub fn words_are_runs(front: &str, space: char, back: &str)
     ensures parts { SpacePartsWords front.now space back.now }

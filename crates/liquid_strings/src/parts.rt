@@ -33,7 +33,7 @@ pub fn characters(alloc: Global, text: &str) -> Result<Vec<&str>, AllocError>
     Ok(characters)
 }
 
-/// Returns the words of the text: its longest runs without white space.
+/// Returns the words of the text: its longest runs without whitespace.
 pub fn words(alloc: Global, text: &str) -> Result<Vec<&str>, AllocError>
     ensures { IfOk result (λ v. map (λ p. p.now) v.items ≡ words text.now) }
 {

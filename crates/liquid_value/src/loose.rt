@@ -9,7 +9,7 @@ use crate::value::{Array, Object, Value};
 ///
 /// Arrays are equal if they have equal items in the same order. Objects are equal if they have the same names and the
 /// values of each name are equal with the sides swapped. A state equals the values in it. If both values are states,
-/// the left one decides. A truth value equals any other scalar, array or object if it is true, and nil if it is false.
+/// the left one decides. A boolean equals any other scalar, array or object if it is true, and nil if it is false.
 /// Other values of different kinds are unequal.
 pub(crate) fn value_eq(left: &Value, right: &Value) -> bool
     ensures { result ≡ value_eq (view left.now) (view right.now) }

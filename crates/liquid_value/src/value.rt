@@ -56,7 +56,7 @@ impl Value {
         }
     }
 
-    /// Returns the name of the value's type, such as `whole number`, `string`, `array` or `nil`.
+    /// Returns the name of the value's type, such as `integer`, `string`, `array` or `nil`.
     pub fn type_name(&self) -> &'static str
         ensures { result.now ≡ type_name (view self.now) }
     {
@@ -83,7 +83,7 @@ impl Value {
         }
     }
 
-    /// Returns the value of a number, a truth value, a text, a date or a date time.
+    /// Returns the value of a number, a boolean, a text, a date or a date time.
     pub fn scalar<T: Into<Scalar>>(value: T) -> Value
         ensures { (s : _) × T.converts value s × (view result ≡ scalar (scal string_bytes s)) }
     {

@@ -1,4 +1,4 @@
-//! Views of numbers, which are whole numbers.
+//! Views of numbers, which are integers.
 ghost use Rattle.std.specs.Prelude.{pos};
 ghost use Rattle.liquid_scalar.specs.meaning.Scalar.{integer};
 ghost use Rattle.liquid_value.specs.meaning.Tree.{scalar};

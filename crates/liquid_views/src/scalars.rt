@@ -1,4 +1,4 @@
-//! Views of truth values, texts and scalars.
+//! Views of booleans, texts and scalars.
 ghost use Rattle.std.specs.Prelude.{string_bytes};
 ghost use Rattle.liquid_scalar.specs.meaning.Scalar.{boolean, text, scal};
 ghost use Rattle.liquid_value.specs.meaning.Tree.{scalar};

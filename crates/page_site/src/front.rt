@@ -101,7 +101,7 @@ fn first_line(text: &str) -> Option<(&str, &str)>
     }
 }
 
-/// Returns the style whose mark a line is, but for white space at its end.
+/// Returns the style whose mark a line is, but for whitespace at its end.
 fn style_of(line: &str) -> Option<Style> {
     match line.trim_end() {
         "---" => Some(Style::Yaml),

@@ -117,7 +117,7 @@ fn is_plain(words: &str) -> bool {
         && !words.ends_with(":")
 }
 
-/// Returns the value of a word, a whole number or a text.
+/// Returns the value of a word, an integer or a text.
 fn read_word(alloc: Global, words: &str) -> Result<Value, AllocError> {
     match words {
         "" | "null" | "~" => Ok(Value::Nil),

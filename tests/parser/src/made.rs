@@ -32,7 +32,7 @@ pub(crate) fn list_of(alloc: Global, item: Expression) -> Result<Vec<Expression>
     Ok(items)
 }
 
-/// Returns the expression that a row gives, or `None` if it gives none: a whole number, `{"text": ".."}`, or a name.
+/// Returns the expression that a row gives, or `None` if it gives none: an integer, `{"text": ".."}`, or a name.
 fn part_in(alloc: Global, given: &Json) -> Option<Expression> {
     match (given.get("text"), given.as_str(), given.as_i64()) {
         (Some(Json::String(text)), _, _) => word(alloc, text.as_str()).ok(),

@@ -1,4 +1,4 @@
-//! Counters near the greatest whole number.
+//! Counters near the greatest integer.
 use crate::given::no_names;
 use crate::library_language::library_language;
 use crate::renderings::writes;

@@ -16,7 +16,7 @@ pub(crate) fn text_at(list: &Json, place: usize) -> Option<&str> {
     }
 }
 
-/// Returns the whole number at a place of a row, or `None` if there is none or it is negative.
+/// Returns the integer at a place of a row, or `None` if there is none or it is negative.
 pub(crate) fn count_at(row: &Line, place: usize) -> Option<u64> {
     match row.member(place) {
         Some(member) => member.as_u64(),

@@ -39,7 +39,7 @@ impl Line {
         }
     }
 
-    /// Returns the whole number at a place, or `None` if there is no such number.
+    /// Returns the integer at a place, or `None` if there is no such number.
     pub fn number(&self, place: usize) -> Option<i64> {
         match self.member(place) {
             Some(member) => member.as_i64(),
@@ -47,7 +47,7 @@ impl Line {
         }
     }
 
-    /// Returns the truth value at a place, or `None` if there is none.
+    /// Returns the boolean at a place, or `None` if there is none.
     pub fn truth(&self, place: usize) -> Option<bool> {
         match self.member(place) {
             Some(member) => member.as_bool(),

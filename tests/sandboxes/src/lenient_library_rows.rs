@@ -15,7 +15,7 @@ pub(crate) static NAMES: &str =
 {"template": "{{ \"a\" | fail }}", "written": "", "error": "liquid: bad\nfrom: Filter error\n  with:\n    filter=fail\n    input=\"a\"\n"}"#;
 
 /// Conditions and loops: nil is equal to nil and to a state, has no order, is not truthy and has no items, and is not a
-/// whole number.
+/// integer.
 pub(crate) static BLOCKS: &str =
     r#"{"template": "{% if y == nil %}a{% endif %}{% if y == blank %}b{% endif %}{% if y < 1 %}c{% else %}d{% endif %}{% if y %}e{% endif %}", "written": "abd"}
 {"template": "{% if x.y != 1 %}a{% endif %}{% if false == x.z %}b{% endif %}{% if x.z %}c{% elsif x.a %}d{% endif %}", "data": {"x": {"a": 1}}, "written": "abd"}

@@ -20,7 +20,7 @@ fn hash_of(scalar: &Scalar) -> u64 {
     hasher.finish()
 }
 
-// A text, and the whole number that it writes, if it writes one.
+// A text, and the integer that it writes, if it writes one.
 const NUMBERS: &str = r#"["5", 5]
 ["+5", 5]
 ["-007", -7]
@@ -34,7 +34,7 @@ const NUMBERS: &str = r#"["5", 5]
 ["5.0"]
 ["true"]"#;
 
-/// Returns the whole number of a scalar.
+/// Returns the integer of a scalar.
 fn number_of(scalar: ScalarCow<'_>) -> Option<i64> {
     scalar.to_integer()
 }
@@ -51,7 +51,7 @@ fn texts_that_write_whole_numbers(rt: HostRuntime) -> Result<(), Fail> {
     rows_hold(rt.alloc(), NUMBERS, writes_number)
 }
 
-/// Returns the truth value of a scalar.
+/// Returns the boolean of a scalar.
 fn truth_of(scalar: ScalarCow<'_>) -> Option<bool> {
     scalar.to_bool()
 }
@@ -76,7 +76,7 @@ fn dated_in(given: &Json) -> Option<ScalarCow<'static>> {
     }
 }
 
-/// Returns the scalar that a row gives: a text, a truth value, a whole number, or a date or a date time as in the rows of
+/// Returns the scalar that a row gives: a text, a boolean, an integer, or a date or a date time as in the rows of
 /// values.
 fn scalar_in(given: &Json) -> Option<ScalarCow<'_>> {
     match given {
@@ -176,7 +176,7 @@ fn is_shown(alloc: Global, scalar: ScalarCow<'_>, render: &str, source: &str, ki
     displays(alloc, &scalar, render, source, kind) & is_kstr(scalar.into_cow_str(alloc), render)
 }
 
-/// Returns `true` if a number, a truth value and a text are shown.
+/// Returns `true` if a number, a boolean and a text are shown.
 fn scalars_are_shown(alloc: Global) -> bool {
     is_shown(alloc, ScalarCow::new(-12i32), "-12", "-12", "whole number")
         && is_shown(alloc, ScalarCow::new(false), "false", "false", "boolean")

@@ -53,7 +53,7 @@ fn is_shown<V: ValueView>(alloc: Global, view: &V, render: &str, source: &str, n
         )
 }
 
-/// Returns `true` if numbers are whole numbers.
+/// Returns `true` if numbers are integers.
 fn numbers_are_shown(alloc: Global) -> bool {
     let number = "whole number";
     let (least, greatest) = ("-9223372036854775808", "4294967295");

@@ -45,7 +45,7 @@ abbrev pub without_weekday : List (List ℕ) → List (List ℕ)
 without_weekday [] = []
 without_weekday (word ∷ others) = if is_some (weekday_named word) then others else word ∷ others
 
--- the words of a text, which commas part as white space does
+-- the words of a text, which commas part as whitespace does
 abbrev pub moment_words : List ℕ → List (List ℕ)
 moment_words text = words (replaced (codes ",") (codes " ") text)
 

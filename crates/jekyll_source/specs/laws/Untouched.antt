@@ -11,6 +11,6 @@ TakesNoName (plain text) = Unit {0}
 TakesNoName (value inner) = Unit {0}
 TakesNoName (tag inner body) = takes_name (tag_of inner).name ≡ false
 
--- no block whose white space is left out begins here
+-- no block whose whitespace is left out begins here
 abbrev pub LeavesNothingOut : Marked → Type 0
 LeavesNothingOut m = m.1 ≡ false

@@ -1,4 +1,4 @@
--- Blank blocks: those that write nothing. The white space in such an `if`, `unless`, `for` or `case` is not written.
+-- Blank blocks: those that write nothing. The whitespace in such an `if`, `unless`, `for` or `case` is not written.
 use Rattle.std.specs.Prelude.{ℕ, Bool, true, false, ◌&&◌, ◌||◌, List, [], ◌∷◌, ◌++◌, bytes_eq, codes, drop, nat_eq, if◌then◌else◌}
 use Rattle.std.specs.List.{list_all, starts_with}
 use Rattle.jekyll_source.specs.meaning.Piece.{Piece, plain, value, tag}
@@ -6,7 +6,7 @@ use Rattle.jekyll_source.specs.meaning.Rewriting.{rewritten}
 use Rattle.jekyll_source.specs.meaning.Splits.{is_white, split_end_dash}
 use Rattle.jekyll_source.specs.meaning.Tags.{named}
 
--- the blocks whose white space is left out if they are blank
+-- the blocks whose whitespace is left out if they are blank
 abbrev pub is_branching : List ℕ → Bool
 is_branching name =
     (bytes_eq name (codes "if") || bytes_eq name (codes "unless")) || (bytes_eq name (codes "for") || bytes_eq name (codes "case"))
@@ -72,7 +72,7 @@ abbrev pub blank_ends : List Piece → List Bool
 blank_ends [] = []
 blank_ends (p ∷ ps) = blank_before p (blank_ends ps)
 
--- a piece, and whether it begins a block whose white space is left out
+-- a piece, and whether it begins a block whose whitespace is left out
 abbrev pub Marked : Type 0
 Marked = Piece × Bool
 
@@ -83,7 +83,7 @@ abbrev pub marked : List Piece → List Marked
 marked [] = []
 marked (p ∷ ps) = mark p (blank_ends ps) ∷ marked ps
 
--- the blocks that are open after a piece, the innermost first: whether the white space of each is left out
+-- the blocks that are open after a piece, the innermost first: whether the whitespace of each is left out
 abbrev pub without_first : List Bool → List Bool
 without_first [] = []
 without_first (b ∷ bs) = bs
@@ -92,7 +92,7 @@ abbrev pub open_after : Marked → List Bool → List Bool
 open_after m blocks =
     if is_end (name_of m.0) then without_first blocks else if is_start (name_of m.0) then m.1 ∷ blocks else blocks
 
--- the white space that the tag before it takes, so that it is not written and all that follows has its place
+-- the whitespace that the tag before it takes, so that it is not written and all that follows has its place
 abbrev pub white_of : Piece → List ℕ
 white_of (plain text) = if is_white_text text then text else []
 white_of (value inner) = []
@@ -102,12 +102,12 @@ abbrev pub taken_white : Bool → List Marked → List ℕ
 taken_white is_left_out [] = []
 taken_white is_left_out (m ∷ ms) = if is_left_out then white_of m.0 else []
 
--- a tag with white space before its `%}`
+-- a tag with whitespace before its `%}`
 abbrev pub widened : List ℕ → List ℕ → List ℕ
 widened [] inner = rewritten inner
 widened (b ∷ bs) inner = (split_end_dash inner).0 ++ ((b ∷ bs) ++ (split_end_dash inner).1)
 
--- what is written for a piece, after which comes white space that it takes
+-- what is written for a piece, after which comes whitespace that it takes
 abbrev pub written : Bool → List ℕ → Piece → List ℕ
 written is_left_out white (plain text) = if is_left_out && is_white_text text then [] else text
 written is_left_out white (value inner) = codes "{{" ++ (inner ++ codes "}}")

@@ -11,7 +11,7 @@ use Rattle.jekyll_source.specs.meaning.Tags.{named}
 abbrev pub begins_tag : List ℕ → List ℕ → Bool
 begins_tag name text = option_map_or (λ rest. bytes_eq (named rest).0 name) (after_opener (byte "%") text) false
 
--- whether nothing but white space and perhaps a dash is before `%}`
+-- whether nothing but whitespace and perhaps a dash is before `%}`
 abbrev pub closes : List ℕ → Bool
 closes text = starts_with nat_eq (split_dash (split_run is_white text).1).1 (codes "%}")
 

@@ -9,7 +9,7 @@ use Rattle.jekyll_source.specs.meaning.Literals.{literal}
 use Rattle.jekyll_source.specs.meaning.Splits.{Parts, after_opener, is_blank, is_white, split_around, split_at}
 use Rattle.jekyll_source.specs.meaning.Splits.{split_dash, split_end_dash, split_end_run, split_run}
 
--- the length of the name with which a text begins, perhaps inside of `{{ }}`: it goes up to white space outside of them.
+-- the length of the name with which a text begins, perhaps inside of `{{ }}`: it goes up to whitespace outside of them.
 -- Without the `}}` there is no name
 abbrev pub name_len : Bool → List ℕ → Option ℕ
 name_len false [] = Some 0

@@ -56,6 +56,6 @@ pieces text = pieces_in (length text) text
 abbrev pub joined : List Piece → List ℕ
 joined ps = flat_map bytes_of ps
 
--- the text with its tags in this engine's grammar, and without the white space of blocks that write nothing
+-- the text with its tags in this engine's grammar, and without the whitespace of blocks that write nothing
 abbrev pub jekyll_text : List ℕ → List ℕ
 jekyll_text text = written_in [] (marked (pieces text))

@@ -9,11 +9,11 @@ use Rattle.memchr.specs.Find.{first_of, matches}
 abbrev pub Parts : Type 0
 Parts = List ℕ × List ℕ
 
--- ASCII's white space: space, tab, line feed, vertical tab, form feed and carriage return
+-- ASCII's whitespace: space, tab, line feed, vertical tab, form feed and carriage return
 abbrev pub is_white : ℕ → Bool
 is_white b = b == byte " " || (not (nat_lt b 9) && nat_lt b 14)
 
--- the white space in a line that doesn't end it
+-- the whitespace in a line that doesn't end it
 abbrev pub is_blank : ℕ → Bool
 is_blank b = b == byte " " || b == byte "\t"
 

@@ -4,7 +4,7 @@ use Rattle.std.specs.List.{prefix_len, suffix_len}
 use Rattle.std.specs.Str.{byte}
 use Rattle.jekyll_source.specs.meaning.Splits.{is_blank, is_white, is_word, split_dash, split_end_dash, split_end_run, split_run}
 
--- what is between `{%` and `%}`: perhaps a dash, white space, the name, white space, what the tag says, white space and perhaps
+-- what is between `{%` and `%}`: perhaps a dash, whitespace, the name, whitespace, what the tag says, whitespace and perhaps
 -- a dash
 pub record Tag : Type 0 where
   pub dash : List ℕ

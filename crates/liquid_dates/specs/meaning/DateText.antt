@@ -199,7 +199,7 @@ ends_in_offset text = is_offset_end (drop (length text - 5) text)
 abbrev pub with_given_offset : Bool → List ℕ → List ℕ
 with_given_offset given text = if given then text else text ++ codes " +0000"
 
--- `now` or `today` in any case, with white space at both ends
+-- `now` or `today` in any case, with whitespace at both ends
 abbrev pub IsNow : List ℕ → Type 0
 IsNow text =
     (map to_ascii_lowercase (trim text) ≡ codes "now") ⊎ (map to_ascii_lowercase (trim text) ≡ codes "today")

@@ -1,9 +1,9 @@
--- Quotients rounded to the nearest whole number.
+-- Quotients rounded to the nearest integer.
 use Rattle.std.specs.Prelude.{ℕ, ℤ, pos, neg_ℤ, ◌+◌, ◌-◌, ◌*◌, ◌/◌, ◌%◌, ◌^◌, Bool, not, ◌==◌, Option, None, unsigned_abs, if◌then◌else◌}
 use Rattle.std.specs.Int.{int_div_euclid, is_negative}
 use Rattle.liquid_decimals.specs.meaning.Dec.{Dec, limited, signed}
 
--- the quotient of two magnitudes rounded to the nearest whole number, a half up
+-- the quotient of two magnitudes rounded to the nearest integer, a half up
 abbrev pub nearest : ℕ → ℕ → ℕ
 nearest n d = (2 * n + d) / (2 * d)
 
@@ -24,7 +24,7 @@ round scale d = limited (signed (is_negative d.0) (nearest (unsigned_abs d.0 * 1
 abbrev pub round_to_power : ℕ → Dec → Option Dec
 round_to_power power d = limited (signed (is_negative d.0) (nearest (unsigned_abs d.0) (10 ^ (d.1 + power)) * 10 ^ power)) 0
 
--- the greatest whole number that is not above, and the least one that is not below
+-- the greatest integer that is not above, and the least one that is not below
 abbrev pub floor : Dec → ℤ
 floor d = int_div_euclid d.0 (pos (10 ^ d.1))
 

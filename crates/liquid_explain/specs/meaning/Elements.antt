@@ -9,7 +9,7 @@ use Rattle.liquid_explain.specs.meaning.Misses.{Misses, Wants, After, Either}
 use Rattle.liquid_explain.specs.meaning.Filters.{ChainMisses}
 use Rattle.liquid_explain.specs.meaning.Tokens.{TokensMisses, CloserMisses}
 
--- the braces, a dash or none, and the white space after them
+-- the braces, a dash or none, and the whitespace after them
 abbrev pub Opened : ℕ → Rule (List ℕ)
 Opened kind = Braces kind ▷ Optional (Byte dash) ▷ White
 

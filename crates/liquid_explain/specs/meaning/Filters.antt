@@ -10,7 +10,7 @@ use Rattle.liquid_explain.specs.declared.part.Part.TheVariants.{FilterName, Colo
 use Rattle.liquid_explain.specs.meaning.Misses.{Misses, Wants, After, Either, Along}
 use Rattle.liquid_explain.specs.meaning.Values.{ValueMisses}
 
--- the separator between white space, or something after it
+-- the separator between whitespace, or something after it
 abbrev pub Separated : ℕ → Part → Misses → Misses
 Separated separator part M = After White (Either (Wants (Byte separator) part) (After (Byte separator) (After White M)))
 

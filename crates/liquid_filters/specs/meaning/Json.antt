@@ -10,7 +10,7 @@ use Rattle.liquid_value.specs.meaning.Tree.{Tree, nil, state, scalar, array, obj
 abbrev pub quoted : List ℕ → List ℕ
 quoted bytes = compact_text (json.string bytes)
 
--- a number and a truth value as they render, and any other scalar in quotes
+-- a number and a boolean as they render, and any other scalar in quotes
 abbrev pub scalar_json : Scal → List ℕ
 scalar_json (integer n) = signed_decimal n
 scalar_json (boolean b) = boolean_text b
@@ -20,7 +20,7 @@ scalar_json other = quoted (render_scalar other)
 abbrev pub comma : Bool → List ℕ
 comma later = cond later (codes ",") []
 
--- nil and the states are null; items and members are separated by commas, with no white space anywhere
+-- nil and the states are null; items and members are separated by commas, with no whitespace anywhere
 abbrev mutual
   pub json_text : Tree → List ℕ
   json_text nil = codes "null"

@@ -59,7 +59,7 @@ pub fn times(alloc: Global, input: &Value, arguments: &[ValueCow<'_>]) -> Result
     }
 }
 
-/// Returns the quotient of the input by the first argument: of whole numbers rounded down, and of others with the greater
+/// Returns the quotient of the input by the first argument: of integers rounded down, and of others with the greater
 /// scale, a half away from zero. A second argument is the number of digits that the quotient has after the point.
 pub fn divided_by(alloc: Global, input: &Value, arguments: &[ValueCow<'_>]) -> Result<Value, Error>
     ensures { Gives tree_of result (divided_by (tree_of input.now) (map cow_view arguments.now)) }

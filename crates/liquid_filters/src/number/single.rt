@@ -34,7 +34,7 @@ pub fn abs(alloc: Global, input: &Value) -> Result<Value, Error>
     }
 }
 
-/// Returns the least whole number that is not below the input.
+/// Returns the least integer that is not below the input.
 pub fn ceil(alloc: Global, input: &Value) -> Result<Value, Error>
     ensures { Gives tree_of result (ceil (tree_of input.now)) }
 {
@@ -47,7 +47,7 @@ pub fn ceil(alloc: Global, input: &Value) -> Result<Value, Error>
     Ok(Value::Scalar(ScalarOf::Integer(ceiling)))
 }
 
-/// Returns the greatest whole number that is not above the input.
+/// Returns the greatest integer that is not above the input.
 pub fn floor(alloc: Global, input: &Value) -> Result<Value, Error>
     ensures { Gives tree_of result (floor (tree_of input.now)) }
 {
@@ -63,7 +63,7 @@ pub fn floor(alloc: Global, input: &Value) -> Result<Value, Error>
 /// Returns the input rounded to the number of digits after the point that the argument gives: to tens by -1, to hundreds by
 /// -2, and so on.
 ///
-/// A half is rounded away from zero. From 0 digits down, or without an argument, the result is a whole number. A whole number
+/// A half is rounded away from zero. From 0 digits down, or without an argument, the result is an integer. An integer
 /// stays itself from 0 digits on.
 pub fn round(alloc: Global, input: &Value, arguments: &[ValueCow<'_>]) -> Result<Value, Error>
     ensures { Gives tree_of result (round (tree_of input.now) (map cow_view arguments.now)) }
@@ -89,7 +89,7 @@ fn round_whole(alloc: Global, number: i64, digits: i64) -> Result<Value, Error>
     check_limit(alloc, narrow(round_to_digits(number, digits)))
 }
 
-/// Returns the decimal rounded to that many digits after the point, and from 0 digits down to a whole number.
+/// Returns the decimal rounded to that many digits after the point, and from 0 digits down to an integer.
 #[tactic(auto, using(crate::proofs::RoundingLemmas::round_past))]
 fn round_decimal(decimal: Decimal, digits: i64) -> Option<Decimal>
     ensures { option_map dec result ≡ rounded_decimal (dec decimal) digits }

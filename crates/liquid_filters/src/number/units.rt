@@ -46,7 +46,7 @@ pub fn written_decimal(
     }
 }
 
-/// Returns the whole number of the input as a decimal with as many digits after the point as the argument says.
+/// Returns the integer of the input as a decimal with as many digits after the point as the argument says.
 pub fn from_minor(alloc: Global, input: &Value, arguments: &[ValueCow<'_>]) -> Result<Value, Error>
     ensures { Gives tree_of result (from_minor (tree_of input.now) (map cow_view arguments.now)) }
 {
@@ -60,7 +60,7 @@ pub fn from_minor(alloc: Global, input: &Value, arguments: &[ValueCow<'_>]) -> R
     }
 }
 
-/// Returns the input times ten to as many digits as the argument says, a whole number. Fails if a digit would be lost.
+/// Returns the input times ten to as many digits as the argument says, an integer. Fails if a digit would be lost.
 pub fn to_minor(alloc: Global, input: &Value, arguments: &[ValueCow<'_>]) -> Result<Value, Error>
     ensures { Gives tree_of result (to_minor (tree_of input.now) (map cow_view arguments.now)) }
 {

@@ -1,4 +1,4 @@
-//! Filters that cut white space off the ends of a text.
+//! Filters that cut whitespace off the ends of a text.
 ghost use Rattle.std.specs.Prelude.{Ok};
 ghost use Rattle.liquid_error.specs.meaning.Told.{Gives};
 ghost use Rattle.liquid_value.specs.meaning.View.{view as tree_of};
@@ -9,7 +9,7 @@ use liquid_scalar::ScalarOf;
 use liquid_value::Value;
 use std::alloc::Global;
 
-/// Returns the text without the white space at its start and at its end.
+/// Returns the text without the whitespace at its start and at its end.
 pub fn strip(alloc: Global, input: &Value) -> Result<Value, Error>
     ensures { Gives tree_of result (Ok (stripped (tree_of input.now))) }
 {
@@ -18,7 +18,7 @@ pub fn strip(alloc: Global, input: &Value) -> Result<Value, Error>
     Ok(Value::Scalar(ScalarOf::Str(answer)))
 }
 
-/// Returns the text without the white space at its start.
+/// Returns the text without the whitespace at its start.
 pub fn lstrip(alloc: Global, input: &Value) -> Result<Value, Error>
     ensures { Gives tree_of result (Ok (left_stripped (tree_of input.now))) }
 {
@@ -27,7 +27,7 @@ pub fn lstrip(alloc: Global, input: &Value) -> Result<Value, Error>
     Ok(Value::Scalar(ScalarOf::Str(answer)))
 }
 
-/// Returns the text without the white space at its end.
+/// Returns the text without the whitespace at its end.
 pub fn rstrip(alloc: Global, input: &Value) -> Result<Value, Error>
     ensures { Gives tree_of result (Ok (right_stripped (tree_of input.now))) }
 {

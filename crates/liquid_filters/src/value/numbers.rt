@@ -22,7 +22,7 @@ pub fn number(alloc: Global, value: &Value) -> Result<i64, Error>
     }
 }
 
-/// Returns the whole number of a value. Fails for a value that is not one, such as nil.
+/// Returns the integer of a value. Fails for a value that is not one, such as nil.
 pub fn whole(alloc: Global, value: &Value) -> Result<i64, Error>
     ensures { Gives (λ n. n) result (whole (tree_of value.now)) }
 {
@@ -52,7 +52,7 @@ pub fn number_of(value: &Value) -> Option<i64>
     }
 }
 
-/// Returns the whole number of a value, if it is one.
+/// Returns the integer of a value, if it is one.
 pub fn whole_of(value: &Value) -> Option<i64>
     ensures { result ≡ whole_of (tree_of value.now) }
 {
@@ -62,7 +62,7 @@ pub fn whole_of(value: &Value) -> Option<i64>
     }
 }
 
-/// Returns the number of a scalar, if it is one. A text may have white space at its ends.
+/// Returns the number of a scalar, if it is one. A text may have whitespace at its ends.
 fn scalar_number(scalar: &Scalar) -> Option<i64>
     ensures { result ≡ scalar_number (scal string_bytes scalar.now) }
 {

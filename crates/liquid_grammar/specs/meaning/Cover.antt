@@ -28,7 +28,7 @@ pub record Expression (s rest : List ℕ) (chain : Chain) : Type 0 where
   pub no_tag : ¬ (Begins TagRule s)
   pub match : ExpressionRule s rest chain
 
--- an opener that begins neither a tag nor an expression: its white space and one `{`
+-- an opener that begins neither a tag nor an expression: its whitespace and one `{`
 pub record Invalid (s rest text : List ℕ) : Type 0 where
   pub opens : Opens s
   pub no_tag : ¬ (Begins TagRule s)

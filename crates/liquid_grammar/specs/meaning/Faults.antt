@@ -30,7 +30,7 @@ Fault = FaultKind × List ℕ
 abbrev pub is_numeral : List ℕ → Bool
 is_numeral digits = nat_lt 0 (length digits) && all_ascii_digits digits
 
--- a whole number of 64 bits with a sign: its amount, and whether it is negative
+-- an integer of 64 bits with a sign: its amount, and whether it is negative
 abbrev pub fits_integer : Bool → ℕ → Bool
 fits_integer negative amount = nat_lt amount (2 ^ 63) || (negative && amount == 2 ^ 63)
 

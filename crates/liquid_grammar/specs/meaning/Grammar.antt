@@ -4,7 +4,7 @@ use Rattle.liquid_grammar.specs.meaning.Bytes.{is_white, starts_name, is_word}
 use Rattle.liquid_grammar.specs.meaning.Rules.{Rule, Begins, One, Then, Else, Repeated, Where, Text, Ahead, Byte, ◌▷◌, ◌◁◌}
 use Rattle.liquid_grammar.specs.meaning.Bytes.{close_brace, dash, open_brace, percent}
 
--- any run of white space, even an empty one
+-- any run of whitespace, even an empty one
 abbrev pub White : Rule (List ℕ)
 White = Repeated (One is_white)
 
@@ -12,15 +12,15 @@ White = Repeated (One is_white)
 abbrev pub Braces : ℕ → Rule ℕ
 Braces kind = Byte open_brace ▷ Byte kind
 
--- an opener with its dash and the white space before it; otherwise the braces alone
+-- an opener with its dash and the whitespace before it; otherwise the braces alone
 abbrev pub Opener : ℕ → Rule ℕ
 Opener kind = Else (White ▷ Braces kind ▷ Byte dash) (Braces kind)
 
--- a closer with its dash and the white space after it; otherwise `}}` or `%}` alone
+-- a closer with its dash and the whitespace after it; otherwise `}}` or `%}` alone
 abbrev pub Closer : ℕ → Rule ℕ
 Closer kind = Else (Byte dash ▷ Byte kind ▷ Byte close_brace ◁ White) (Byte kind ▷ Byte close_brace)
 
--- `{{` or `{%`, with dash and white space
+-- `{{` or `{%`, with dash and whitespace
 abbrev pub AnyOpener : Rule ℕ
 AnyOpener = Else (Opener open_brace) (Opener percent)
 
@@ -47,6 +47,6 @@ is_literal_word word =
 abbrev pub Name : Rule (List ℕ)
 Name = Where (λ word. not (is_literal_word word)) Identifier
 
--- white space and one `{`
+-- whitespace and one `{`
 abbrev pub LoneBrace : Rule (List ℕ)
 LoneBrace = Text (Then White (Byte open_brace))

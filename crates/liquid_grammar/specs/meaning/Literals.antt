@@ -40,7 +40,7 @@ Digits = Text (Then (One is_ascii_digit) (Repeated (One is_ascii_digit)))
 abbrev pub Whole : Rule (List ℕ)
 Whole = Text (Then (Optional (One (λ b. b == plus || b == dash))) Digits)
 
--- a whole number, `.` and digits
+-- an integer, `.` and digits
 abbrev pub Fractional : Rule (List ℕ)
 Fractional = Text (Then Whole (Then (Byte dot) Digits))
 

@@ -29,7 +29,7 @@ pub data Token : Type 0 where
 abbrev pub Tag : Type 0
 Tag = List ℕ × Placed (List Token)
 
--- an identifier and `:`, with the white space after them
+-- an identifier and `:`, with the whitespace after them
 abbrev pub KeywordStart : Rule (List ℕ)
 KeywordStart = Identifier ◁ White ◁ Byte colon ◁ White
 
@@ -41,7 +41,7 @@ KeywordRule = Seen (λ p. keyword p.0 p.1) (Then KeywordStart ValueRule)
 abbrev pub ArgumentRule : Rule Argument
 ArgumentRule = Else KeywordRule (Seen positional ValueRule)
 
--- the separator between white space, and R after it
+-- the separator between whitespace, and R after it
 abbrev pub Following : {A : Type 0} → ℕ → Rule A → Rule A
 Following separator R = White ▷ Byte separator ▷ White ▷ R
 
@@ -62,15 +62,15 @@ FilterRule = At (Seen (λ p. (p.0, arguments_of p.1)) (Then Identifier (Optional
 abbrev pub ChainRule : Rule Chain
 ChainRule = At (Then ValueRule (Repeated (Following bar FilterRule)))
 
--- `..` between white space
+-- `..` between whitespace
 abbrev pub Dots : Rule ℕ
 Dots = White ▷ Byte dot ▷ Byte dot ◁ White
 
--- `(` and the white space after it
+-- `(` and the whitespace after it
 abbrev pub RangeStart : Rule (List ℕ)
 RangeStart = Byte open_paren ▷ White
 
--- `)` and the white space before it
+-- `)` and the whitespace before it
 abbrev pub RangeEnd : Rule ℕ
 RangeEnd = White ▷ Byte close_paren
 

@@ -32,11 +32,11 @@ placed_variable p = variable_value p.place p.following p.what.0 (gather p.what.1
 abbrev pub placed_bracket : Placed Value → Index
 placed_bracket p = bracketed_index p.place p.following p.what
 
--- `[` and the white space after it
+-- `[` and the whitespace after it
 abbrev pub OpenBracket : Rule (List ℕ)
 OpenBracket = Byte open_square ▷ White
 
--- `]` and the white space before it
+-- `]` and the whitespace before it
 abbrev pub CloseBracket : Rule ℕ
 CloseBracket = White ▷ Byte close_square
 

@@ -31,7 +31,7 @@ abbrev pub IsHeadOf : List ℕ → Head → Type 0
 IsHeadOf word (head.Literal literal) = (is_literal_word word ≡ true) × (literal_of literal ≡ word_literal word)
 IsHeadOf word (head.Name name) = (is_literal_word word ≡ false) × (name.now ≡ word)
 
--- a colon between white space is here, and the value after it begins in this way
+-- a colon between whitespace is here, and the value after it begins in this way
 pub record HasColon (s : List ℕ) (h : Head) (after : List ℕ) : Type 0 where
   pub place : List ℕ
   pub white : List ℕ

@@ -122,7 +122,7 @@ lone_brace = text (both white (byte open_brace))
 abbrev pub begins_braces : List ℕ → ℕ → Bool
 begins_braces s at = slice_index s at == open_brace && (slice_index s (at + 1) == open_brace || slice_index s (at + 1) == percent)
 
--- where the white space before the index `from + n` begins, not before `from`
+-- where the whitespace before the index `from + n` begins, not before `from`
 unfoldable pub white_start : List ℕ → (from n : ℕ) → ℕ
 white_start s from zero = from
 white_start s from (suc n) = cond (is_white (slice_index s (from + n))) (white_start s from n) (from + n + 1)

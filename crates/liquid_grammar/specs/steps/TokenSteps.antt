@@ -191,7 +191,7 @@ argument = either keyword_argument (seen positional value)
 abbrev pub separated : ℕ → Reader (List ℕ)
 separated separator = right (right white (byte separator)) white
 
--- a separator between white space, and what is after it
+-- a separator between whitespace, and what is after it
 abbrev pub following : {A : Type 0} → ℕ → Reader A → Reader A
 following separator f = right (separated separator) f
 
@@ -201,7 +201,7 @@ arguments = seen (λ p. p.0 ∷ p.1) (both (following colon argument) (repeated 
 unfoldable pub filter : Reader Filter
 filter = at (seen (λ p. (p.0, arguments_of p.1)) (both identifier (optional arguments)))
 
--- `|` is here, after white space
+-- `|` is here, after whitespace
 abbrev pub begins_filter : List ℕ → Bool
 begins_filter s = slice_index (drop (prefix_len is_white s) s) 0 == bar
 

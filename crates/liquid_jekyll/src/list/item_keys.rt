@@ -94,7 +94,7 @@ fn step<'v>(alloc: Global, value: ValueCow<'v>, name: &str) -> Result<ValueCow<'
     }
 }
 
-/// Returns a property of a value, or `false` for nil and truth values.
+/// Returns a property of a value, or `false` for nil and booleans.
 fn property_on<'v>(alloc: Global, value: &'v Value, name: &str) -> Result<ValueCow<'v>, Error>
     ensures { Gives cow_view result (Spec.property_on name.now (tree_of value.now)) }
 {
@@ -130,7 +130,7 @@ fn number_in(value: &Value) -> Option<i64>
     }
 }
 
-/// Returns the whole number that the text writes without a plus sign.
+/// Returns the integer that the text writes without a plus sign.
 fn unsigned_number(text: &str) -> Option<i64>
     ensures { result ≡ Spec.unsigned_number text.now }
 {

@@ -8,7 +8,7 @@ use ucd_script::Script;
 /// A set of characters.
 #[derive(Debug, Clone, Copy, PartialEq, Eq)]
 pub enum CharacterSet {
-    /// White space of ASCII.
+    /// Whitespace of ASCII.
     WhiteSpace,
     /// All but letters, marks and decimal digits.
     BetweenWords,
@@ -16,9 +16,9 @@ pub enum CharacterSet {
     BetweenPretty,
     /// All but letters and digits of ASCII.
     BetweenAscii,
-    /// All but white space of ASCII.
+    /// All but whitespace of ASCII.
     Printed,
-    /// All but white space of ASCII and the scripts Han, Katakana, Hiragana and Hangul.
+    /// All but whitespace of ASCII and the scripts Han, Katakana, Hiragana and Hangul.
     Western,
 }
 
@@ -40,7 +40,7 @@ impl CharacterSet {
     }
 }
 
-/// Returns `true` for white space of ASCII.
+/// Returns `true` for whitespace of ASCII.
 pub(crate) fn is_space(character: char) -> bool
     ensures { result ≡ Spec.is_space character }
 {

@@ -1,11 +1,11 @@
-//! Whole numbers at the start of a text.
+//! Integers at the start of a text.
 ghost use Rattle.std.specs.Prelude.{◌≡◌, ◌≤◌, length};
 ghost use Rattle.std.specs.List.{prefix_len};
 ghost use Rattle.liquid_jekyll.specs.meaning.text.Numerals as Spec;
 
 use crate::text::spaces::without_leading;
 
-/// Returns the sign and the digits with which a text begins after white space, or the empty text if there is no digit.
+/// Returns the sign and the digits with which a text begins after whitespace, or the empty text if there is no digit.
 pub fn numeral(text: &str) -> &str
     ensures { result.now ≡ Spec.numeral text.now }
 {

@@ -110,7 +110,7 @@ fn is_ascii_word(character: char) -> bool
     character.is_ascii_alphanumeric() || character == '_'
 }
 
-/// Returns `true` for a quote before emphasis: `_` or `*`, and no white space behind.
+/// Returns `true` for a quote before emphasis: `_` or `*`, and no whitespace behind.
 fn opens_emphasis(text: &[char]) -> bool
     ensures { result ≡ Spec.opens_emphasis text.now }
 {
@@ -152,7 +152,7 @@ fn closes_after(character: char) -> bool
     )
 }
 
-/// Returns `true` if what follows a quote ends the word before it: white space, or `s` as a whole word.
+/// Returns `true` if what follows a quote ends the word before it: whitespace, or `s` as a whole word.
 fn ends_word(first: char, second: char) -> bool
     ensures { result ≡ Spec.ends_word first second }
 {

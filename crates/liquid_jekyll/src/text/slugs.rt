@@ -11,7 +11,7 @@ use std::alloc::{AllocError, Global};
 /// Which characters a slug keeps.
 #[derive(Debug, Clone, Copy, PartialEq, Eq)]
 pub enum SlugMode {
-    /// All but white space.
+    /// All but whitespace.
     Raw,
     /// Letters, marks and decimal digits.
     Default,

@@ -1,10 +1,10 @@
-//! White space at the ends of a text.
+//! Whitespace at the ends of a text.
 ghost use Rattle.std.specs.Prelude.{◌≡◌, ◌≤◌, length, reverse};
 ghost use Rattle.std.specs.List.{prefix_len};
 ghost use Rattle.liquid_jekyll.specs.meaning.text.CharacterSets.{is_space};
 ghost use Rattle.liquid_jekyll.specs.meaning.text.Spaces as Spec;
 
-/// Returns the text without white space at its ends.
+/// Returns the text without whitespace at its ends.
 pub fn strip_spaces(text: &str) -> &str
     ensures { result.now ≡ Spec.stripped text.now }
 {
@@ -12,7 +12,7 @@ pub fn strip_spaces(text: &str) -> &str
     &text[..text.len() - trailing_length(text.as_bytes())]
 }
 
-/// Returns the text without white space at its start.
+/// Returns the text without whitespace at its start.
 pub(crate) fn without_leading(text: &str) -> &str
     ensures { result.now ≡ Spec.without_leading text.now }
 {

@@ -1,4 +1,4 @@
-//! White space and words.
+//! Whitespace and words.
 ghost use Rattle.std.specs.Prelude.{◌≡◌, ◌≤◌, length, chars, count_by, string_bytes, IfOk};
 ghost use Rattle.liquid_jekyll.specs.meaning.text.Words as Spec;
 
@@ -9,15 +9,15 @@ use std::alloc::{AllocError, Global};
 /// What counts as a word.
 #[derive(Debug, Clone, Copy, PartialEq, Eq)]
 pub enum WordMode {
-    /// A run without white space.
+    /// A run without whitespace.
     Spaced,
-    /// A character of the scripts Han, Katakana, Hiragana and Hangul, and a run between these and white space.
+    /// A character of the scripts Han, Katakana, Hiragana and Hangul, and a run between these and whitespace.
     Mixed,
     /// The second if there is such a character, otherwise the first.
     Auto,
 }
 
-/// Returns the text with one space in place of each run of white space, and none at the ends.
+/// Returns the text with one space in place of each run of whitespace, and none at the ends.
 pub fn normalize_whitespace(alloc: Global, text: &str) -> Result<String, AllocError>
     ensures { IfOk result (λ t. string_bytes t ≡ Spec.normalized text.now) }
 {

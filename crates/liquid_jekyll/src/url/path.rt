@@ -8,7 +8,7 @@ use crate::url::parts::{UrlPart, clean};
 use liquid_strings::pieces;
 use std::alloc::{AllocError, Global};
 
-/// Returns the path in its normal form: without white space at its ends, with clean segments, and, if it begins with a
+/// Returns the path in its normal form: without whitespace at its ends, with clean segments, and, if it begins with a
 /// slash, without the segments `.` and `..`. The second one takes the segment before it along.
 pub(crate) fn normal_path(alloc: Global, path: &str) -> Result<String, AllocError>
     ensures { IfOk result (λ t. string_bytes t ≡ Spec.normal_path path.now) }

@@ -14,8 +14,8 @@ use liquid_value::Value;
 use std::alloc::Global;
 use std::borrow::CowStr;
 
-/// Returns the whole number of a value: a number itself, 1 for `true`, 0 for `false` and nil, and otherwise the number with
-/// which the text begins after white space, or 0 without one.
+/// Returns the integer of a value: a number itself, 1 for `true`, 0 for `false` and nil, and otherwise the number with
+/// which the text begins after whitespace, or 0 without one.
 ///
 /// Fails for an array and an object, and for a number that is not an `i64`.
 pub fn to_integer(alloc: Global, input: &Value) -> Result<Value, Error>
@@ -41,7 +41,7 @@ fn integer_of(alloc: Global, scalar: &Scalar) -> Result<Value, Error>
     }
 }
 
-/// Returns the number with which a text begins after white space, or 0 without one. Returns `None` for a number that is
+/// Returns the number with which a text begins after whitespace, or 0 without one. Returns `None` for a number that is
 /// not an `i64`.
 fn leading_integer(text: &str) -> Option<i64>
     ensures { result ≡ Spec.leading_integer text.now }

@@ -15,7 +15,7 @@ use liquid_strings::to_lowercase;
 use liquid_value::{Value, ValueCow};
 use std::alloc::{AllocError, Global};
 
-/// Returns the text with one space in place of each run of white space, and none at the ends.
+/// Returns the text with one space in place of each run of whitespace, and none at the ends.
 pub fn normalize_whitespace(alloc: Global, input: &Value) -> Result<Value, Error>
     ensures { Gives tree_of result (Ok (Spec.normalized (tree_of input.now))) }
 {
@@ -128,7 +128,7 @@ fn slug_mode(name: &str) -> Option<SlugMode>
 }
 
 /// Returns the number of words of the text. The argument says what counts as one: `cjk`, `auto`, or by default each run
-/// without white space.
+/// without whitespace.
 pub fn number_of_words(
     alloc: Global,
     input: &Value,

@@ -10,7 +10,7 @@ use Rattle.liquid_value.specs.meaning.Tree.{Tree, nil, scalar, array, object, It
 abbrev pub refused : {A : Type 0} → List ℕ → Result A Refusal
 refused message = Err (plain message)
 
--- a signed whole number of 64 bits is itself; one that needs the 64th bit does not fit; all others are kept as floats,
+-- a signed integer of 64 bits is itself; one that needs the 64th bit does not fit; all others are kept as floats,
 -- and are refused as fractional
 abbrev pub number_given : json.Num → Result ℤ Refusal
 number_given (json.unsigned n) = if nat_lt n (2 ^ 63) then Ok (pos n) else refused (codes "Cannot fit number")
@@ -41,7 +41,7 @@ object_given (json.object ms) = members_given ms
 object_given (json.array ds) = refused (codes "Object cannot be an array.")
 object_given other = refused (codes "Object cannot be a scalar.")
 
--- a truth value, a text and a number are scalars
+-- a boolean, a text and a number are scalars
 abbrev pub scalar_given : json.Data → Result Scal Refusal
 scalar_given json.null = refused (codes "Scalar must be a string.")
 scalar_given (json.boolean b) = Ok (boolean b)

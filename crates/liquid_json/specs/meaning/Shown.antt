@@ -5,7 +5,7 @@ use Rattle.serde_json.specs.Find.{of_integer}
 use Rattle.liquid_scalar.specs.meaning.Scalar.{Scal, boolean, to_integer, render_scalar}
 use Rattle.liquid_value.specs.meaning.Tree.{Tree, nil, state, scalar, array, object, Items, no_items, item, Members, no_members, member}
 
--- a truth value is itself, and every other scalar its text
+-- a boolean is itself, and every other scalar its text
 abbrev pub text_shown : Scal → json.Data
 text_shown (boolean b) = json.boolean b
 text_shown other = json.string (render_scalar other)

@@ -48,7 +48,7 @@ ComesTo (Whole found) is lacks = is found
 ComesTo NoExpression is lacks = lacks
 ComesTo Undecided is lacks = Unit
 
--- no expression ends here, after white space or none
+-- no expression ends here, after whitespace or none
 abbrev pub Endless : List ℕ → Type 0
 Endless s = ¬ (Begins (White ▷ Closer close_brace) s)
 

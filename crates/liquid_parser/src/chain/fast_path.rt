@@ -39,7 +39,7 @@ pub(crate) enum Walked<V> {
 }
 
 /// Returns the node of the expression that the text begins with, and what follows it. The result is undecided, too, if
-/// a dash has white space before it, or if no expression opens here.
+/// a dash has whitespace before it, or if no expression opens here.
 #[inline(always)]
 pub(crate) fn fast_expression<
     'a,

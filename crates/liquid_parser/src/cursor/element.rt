@@ -44,7 +44,7 @@ pub struct Exp<'a> {
     pub(crate) name: Option<&'a str>,
 }
 
-/// The white space and one `{` of an opener that begins neither a tag nor an expression. It borrows the source.
+/// The whitespace and one `{` of an opener that begins neither a tag nor an expression. It borrows the source.
 #[derive(Clone, Copy)]
 pub struct InvalidLiquidToken<'a> {
     pub(crate) source: &'a str,
@@ -115,7 +115,7 @@ impl<'a> Exp<'a> {
 }
 
 impl<'a> InvalidLiquidToken<'a> {
-    /// Returns the white space before the `{`, and the `{`.
+    /// Returns the whitespace before the `{`, and the `{`.
     pub fn as_str(&self) -> &'a str
         ensures { result.now ≡ self.now.text.now }
     {

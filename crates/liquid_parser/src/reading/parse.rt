@@ -25,7 +25,7 @@ use std::alloc::Global;
 /// Returns the nodes of a template's text, in order.
 ///
 /// Fails with the first error, from left to right: what is neither text nor expression nor tag ("Invalid liquid"), a
-/// block without its end, an unknown tag or filter, a number that is not a whole number of 64 bits, a token that
+/// block without its end, an unknown tag or filter, a number that is not an integer of 64 bits, a token that
 /// nothing expects, brackets or blocks more than a hundred deep, and the error of a plug-in.
 pub fn parse<F: ParseFilter + Drop, T: ParseTag<F> + Drop, B: ParseBlock<F> + Drop>(
     alloc: Global,

@@ -6,7 +6,7 @@ use Rattle.liquid_value.specs.declared.cow.ValueCow.TheVariants.{Owned, Borrowed
 use Rattle.liquid_value.specs.meaning.Tree.{Tree, scalar}
 use Rattle.liquid_value.specs.meaning.View.{view}
 
--- a whole number
+-- an integer
 abbrev pub IsNumber : Tree → Type 0
 IsNumber t = (n : ℤ) × (t ≡ scalar (integer n))
 

@@ -16,7 +16,7 @@ item_asked word ts =
     if bytes_eq word (codes "first") then item_at (pos 0) ts
     else (if bytes_eq word (codes "last") then item_at (negsuc 0) ts else size_asked word (item_count ts))
 
--- the member of an object at a text, and the item of an array at a whole number
+-- the member of an object at a text, and the item of an array at an integer
 abbrev pub own_part : Tree → Scal → Option Tree
 own_part (array ts) (integer n) = item_at n ts
 own_part (object ms) (text word) = get_member word ms

@@ -1,4 +1,4 @@
--- What a scalar means, its texts, the name of its kind, and the numbers and truth values that it converts to.
+-- What a scalar means, its texts, the name of its kind, and the numbers and booleans that it converts to.
 use Rattle.std.specs.Prelude.{ℕ, ℤ, ◌-◌, ◌^◌, List, ◌++◌, Bool, ◌&&◌, Option, None, Some, nat_lt, nat_le, length, codes, if◌then◌else◌}
 use Rattle.std.specs.Fmt.{signed_decimal}
 use Rattle.std.specs.Str.{all_ascii_digits}
@@ -9,7 +9,7 @@ use Rattle.liquid_dates.specs.meaning.Printed.{date_text, date_time_text}
 use Rattle.liquid_scalar.specs.declared.scalar.ScalarOf.{ScalarOf}
 use Rattle.liquid_scalar.specs.declared.scalar.ScalarOf.TheVariants as scalar_of
 
--- a scalar: a whole number, a truth value, a text by its bytes, a day of the calendar, or a civil time with its offset
+-- a scalar: an integer, a boolean, a text by its bytes, a day of the calendar, or a civil time with its offset
 pub data Scal : Type 0 where
   integer : ℤ → Scal
   boolean : Bool → Scal
@@ -29,7 +29,7 @@ scal f (scalar_of.DateTime dt) = date_time dt
 abbrev pub boolean_text : Bool → List ℕ
 boolean_text b = if b then codes "true" else codes "false"
 
--- a number renders in decimal, a truth value as its word, a text as it is, a date and a date time in their printed form
+-- a number renders in decimal, a boolean as its word, a text as it is, a date and a date time in their printed form
 abbrev pub render_scalar : Scal → List ℕ
 render_scalar (integer n) = signed_decimal n
 render_scalar (boolean b) = boolean_text b
@@ -63,11 +63,11 @@ abbrev pub is_whole_number : List ℕ → Bool
 is_whole_number bytes = nat_lt 0 (length (without_leading_sign bytes)) &&
     (all_ascii_digits (without_leading_sign bytes) && nat_le (digits_value 10 (without_leading_sign bytes)) (greatest_magnitude bytes))
 
--- the whole number that a text writes, if it writes one
+-- the integer that a text writes, if it writes one
 abbrev pub whole_number_of_text : List ℕ → Option ℤ
 whole_number_of_text bytes = if is_whole_number bytes then Some (signed_digits_value 10 bytes) else None
 
--- a number is itself, a text is the whole number that it writes, and the other kinds have no number
+-- a number is itself, a text is the integer that it writes, and the other kinds have no number
 abbrev pub to_integer : Scal → Option ℤ
 to_integer (integer n) = Some n
 to_integer (boolean b) = None
@@ -75,7 +75,7 @@ to_integer (text bytes) = whole_number_of_text bytes
 to_integer (date d) = None
 to_integer (date_time dt) = None
 
--- only a truth value has one
+-- only a boolean has one
 abbrev pub to_bool : Scal → Option Bool
 to_bool (integer n) = None
 to_bool (boolean b) = Some b

@@ -16,7 +16,7 @@ abbrev pub instant_on : CivilDate → DateTime → ℤ
 instant_on d dt = ((epoch_day d *ℤ pos 86_400 +ℤ pos (second_of_day dt)) -ℤ offset_seconds dt) *ℤ pos 1_000_000_000 +ℤ pos (nanosecond dt)
 
 -- loose equality: scalars of one kind by value, dates by their day and date times by their instant; a date equals a
--- date time if it is the date time's own date; a truth value and a scalar of another kind are equal if the truth value
+-- date time if it is the date time's own date; a boolean and a scalar of another kind are equal if the boolean
 -- is true; all others are unequal
 abbrev pub scalar_eq : Scal → Scal → Bool
 scalar_eq (integer a) (integer b) = int_eq a b

@@ -14,7 +14,7 @@ impl<T: AsStr> ScalarOf<T> {
     /// Compares two scalars loosely for equality.
     ///
     /// Scalars of one kind are compared by value, and date times by their instant. A date equals a date time whose own
-    /// date it is. A truth value and a scalar of another kind are equal if the truth value is true. Other scalars are
+    /// date it is. A boolean and a scalar of another kind are equal if the boolean is true. Other scalars are
     /// unequal.
     pub fn scalar_eq<U: AsStr>(&self, other: &ScalarOf<U>) -> bool
         ensures { result ≡ scalar_eq (scal T.text self.now) (scal U.text other.now) }

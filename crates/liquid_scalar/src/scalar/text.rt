@@ -24,7 +24,7 @@ impl<T: AsStr> ScalarOf<T> {
         ScalarSource { scalar: self }
     }
 
-    /// Returns the name of the scalar's kind: `whole number`, `boolean`, `string`, `date` or `date time`.
+    /// Returns the name of the scalar's kind: `integer`, `boolean`, `string`, `date` or `date time`.
     pub fn type_name(&self) -> &'static str
         ensures { result.now ≡ scalar_type_name (scal T.text self.now) }
     {
@@ -37,7 +37,7 @@ impl<T: AsStr> ScalarOf<T> {
         }
     }
 
-    /// Returns the text that the scalar renders as. A text or a truth value is borrowed.
+    /// Returns the text that the scalar renders as. A text or a boolean is borrowed.
     pub fn to_kstr(&self, alloc: Global) -> Result<CowStr<'_>, AllocError>
         ensures { IfOk result (λ t. cow_str_bytes t ≡ render_scalar (scal T.text self.now)) }
     {

@@ -54,7 +54,7 @@ impl Meant for Options {
     ghost shape = { options_of };
 }
 
-/// Returns the whole number of an option, or `None` if the option is missing or nil. Any other value is an `Err`.
+/// Returns the integer of an option, or `None` if the option is missing or nil. Any other value is an `Err`.
 pub fn option_number<R: Runtime>(
     alloc: Global,
     option: &Option<Expression>,
@@ -71,7 +71,7 @@ pub fn option_number<R: Runtime>(
     }
 }
 
-/// Returns the whole number that a value is, or `None` for nil.
+/// Returns the integer that a value is, or `None` for nil.
 fn number_given(alloc: Global, value: &Value) -> Result<Option<i64>, Error>
     ensures { Gives (λ n. n) result (number_given (tree_of value.now)) }
 {

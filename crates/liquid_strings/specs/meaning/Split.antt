@@ -6,7 +6,7 @@ use Rattle.std.specs.Char.{is_whitespace}
 use Rattle.std.specs.Str.{bytes_eq}
 use Rattle.liquid_strings.specs.meaning.Pieces.{pieces}
 
--- the parts between white space that are not empty
+-- the parts between whitespace that are not empty
 abbrev pub words : List ℕ → List (List ℕ)
 words text = map encode_utf8_all (filter (λ part. nat_lt 0 (length part)) (slice_split is_whitespace (chars text)))
 

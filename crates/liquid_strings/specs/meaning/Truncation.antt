@@ -12,7 +12,7 @@ truncated (pos n) ending text =
     cond (nat_le (length (chars text)) n) text (encode_utf8_all (take (n - length (chars ending)) (chars text)) ++ ending)
 truncated (negsuc n) ending text = ending
 
--- whether anything follows the word at that count, even white space
+-- whether anything follows the word at that count, even whitespace
 abbrev pub goes_on : ℕ → List ℕ → Bool
 goes_on n text = nat_lt n (length (words text)) || (length (words text) == n && not (length (trim_end text) == length text))
 

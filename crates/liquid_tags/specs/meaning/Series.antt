@@ -67,7 +67,7 @@ items_in (array ts) = Ok (trees ts)
 items_in (object ms) = Ok (pairs ms)
 items_in (scalar x) = Err (expected (codes "Array expected") (scalar x))
 
--- the whole number that a value is
+-- the integer that a value is
 abbrev pub whole_number : Tree → Result ℤ Refusal
 whole_number t = ok_or (option_and_then to_integer (as_scalar t)) (expected (codes "Whole number expected") t)
 

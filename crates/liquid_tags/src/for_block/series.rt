@@ -114,7 +114,7 @@ fn pair(alloc: Global, name: &String, value: &Value) -> Result<Value, AllocError
     Ok(Value::Array(SharedArray::shared(alloc, pair)?))
 }
 
-/// Returns the whole number that is the value of an expression.
+/// Returns the integer that is the value of an expression.
 fn whole_number<R: Runtime>(
     alloc: Global,
     expression: &Expression,
@@ -129,7 +129,7 @@ fn whole_number<R: Runtime>(
     }
 }
 
-/// Returns the whole number of a value, if it is one.
+/// Returns the integer of a value, if it is one.
 pub(crate) fn number_of(value: &Value) -> Option<i64>
     ensures { result ≡ option_and_then to_integer (as_scalar (tree_of value.now)) }
 {

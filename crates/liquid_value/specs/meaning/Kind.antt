@@ -45,14 +45,14 @@ container_state is_empty DefaultValue = is_empty
 container_state is_empty Empty = is_empty
 container_state is_empty Blank = is_empty
 
--- a text is truthy, default and empty if it has no bytes, and blank if it has nothing but white space
+-- a text is truthy, default and empty if it has no bytes, and blank if it has nothing but whitespace
 abbrev pub text_state : List ℕ → State → Bool
 text_state t Truthy = true
 text_state t DefaultValue = length t == 0
 text_state t Empty = length t == 0
 text_state t Blank = length (trim t) == 0
 
--- a truth value is truthy if it is true, default and blank if it is false, and never empty
+-- a boolean is truthy if it is true, default and blank if it is false, and never empty
 abbrev pub boolean_state : Bool → State → Bool
 boolean_state b Truthy = b
 boolean_state b DefaultValue = not b

@@ -7,7 +7,7 @@ use Rattle.liquid_scalar.specs.meaning.ScalarCompare.{scalar_eq}
 use Rattle.liquid_value.specs.meaning.Kind.{query_state}
 use Rattle.liquid_value.specs.meaning.Tree.{Tree, nil, state, scalar, array, object, Items, no_items, item, Members, no_members, member}
 
--- there is a truth value, and it is this one
+-- there is a boolean, and it is this one
 abbrev pub is_truth : Bool → Option Bool → Bool
 is_truth b None = false
 is_truth b (Some own) = beq b own

@@ -9,7 +9,7 @@ use std::alloc::Global;
 use std::test::Fail;
 
 // A text and the texts of its elements, in order. A tag's text follows `tag:`, an expression's follows `exp:`, and an
-// invalid element's follows `bad:`. There are texts alone, elements, dashes that take white space, and openers that
+// invalid element's follows `bad:`. There are texts alone, elements, dashes that take whitespace, and openers that
 // begin no element of the language.
 const COVERS: &str = r#"["", []]
 ["a{b}c % }}", ["a{b}c % }}"]]

@@ -6,7 +6,7 @@ use Rattle.liquid_value.specs.meaning.Tree.{Tree}
 use Rattle.liquid_filters.specs.meaning.value.Errors.{digits_past_limit, past_limit}
 use Rattle.liquid_filters.specs.meaning.value.Numbers.{whole}
 
--- a whole number from 0 to 18
+-- an integer from 0 to 18
 abbrev pub scale_of : ℤ → Result ℕ Refusal
 scale_of (pos n) = if nat_le n greatest_scale then Ok n else Err past_limit
 scale_of (negsuc n) = Err digits_past_limit

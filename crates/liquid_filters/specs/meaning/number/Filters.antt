@@ -20,11 +20,11 @@ abbrev pub operands : Tree → List Tree → Result (Dec × Dec) Refusal
 operands input (t ∷ []) = ok_then (decimal input) (λ a. ok_then (decimal t) (λ b. Ok (a, b)))
 operands input other = Err unexpected_arguments
 
--- two whole numbers go by the first function, and others by the second
+-- two integers go by the first function, and others by the second
 abbrev pub by_kinds : (ℤ → ℤ → Result Tree Refusal) → (Dec → Dec → Result Tree Refusal) → Dec × Dec → Result Tree Refusal
 by_kinds whole other p = if is_whole p.0 && is_whole p.1 then whole p.0.0 p.1.0 else other p.0 p.1
 
--- a whole number goes by the first function, and another by the second
+-- an integer goes by the first function, and another by the second
 abbrev pub by_kind : (ℤ → Result Tree Refusal) → (Dec → Result Tree Refusal) → Dec → Result Tree Refusal
 by_kind whole other d = if is_whole d then whole d.0 else other d
 
@@ -54,7 +54,7 @@ quotient_with_digits input divisor digits =
     ok_then (operands input (divisor ∷ []))
     (λ p. ok_then (scale digits) (λ s. ok_then (nonzero p) (λ q. limited_decimal (rounding.divided_by q.0 q.1 s))))
 
--- the quotient of whole numbers rounded down, and of others with the greater scale
+-- the quotient of integers rounded down, and of others with the greater scale
 abbrev pub quotient : Dec × Dec → Result Tree Refusal
 quotient =
     by_kinds (λ a b. limited (fits (floor_quotient a b))) (λ a b. limited_decimal (rounding.divided_by a b (decimals.shared_scale a b)))
@@ -89,7 +89,7 @@ at_most input arguments =
 abbrev pub abs : Tree → Result Tree Refusal
 abs input = ok_then (decimal input) (by_kind (λ n. limited (fits (pos (unsigned_abs n)))) (λ d. limited_decimal (decimals.abs d)))
 
--- the least whole number that is not below, and the greatest one that is not above: a whole number itself
+-- the least integer that is not below, and the greatest one that is not above: an integer itself
 abbrev pub ceil : Tree → Result Tree Refusal
 ceil input = ok_then (decimal input) (by_kind (λ n. Ok (scalar (integer n))) (λ d. Ok (scalar (integer (rounding.ceil d)))))
 
@@ -102,7 +102,7 @@ digits [] = Ok (pos 0)
 digits (t ∷ []) = number t
 digits other = Err unexpected_arguments
 
--- a decimal rounded to that many digits after the point, and from 0 digits down to a whole number
+-- a decimal rounded to that many digits after the point, and from 0 digits down to an integer
 abbrev pub rounded_decimal : Dec → ℤ → Option Dec
 rounded_decimal d n = if int_lt (pos 0) n then rounding.round (unsigned_abs n) d else rounding.round_to_power (unsigned_abs n) d
 

@@ -10,7 +10,7 @@ abbrev pub rounded_to : ℕ → ℤ → ℤ
 rounded_to unit (pos n) = pos (nearest_multiple unit n)
 rounded_to unit (negsuc n) = neg_ℤ (pos (nearest_multiple unit (suc n)))
 
--- a whole number rounded to that many digits after the point: itself, but by -1 to tens, by -2 to hundreds, and so on
+-- an integer rounded to that many digits after the point: itself, but by -1 to tens, by -2 to hundreds, and so on
 abbrev pub rounded : ℤ → ℤ → ℤ
 rounded number (pos digits) = number
 rounded number (negsuc digits) = rounded_to (10 ^ suc digits) number

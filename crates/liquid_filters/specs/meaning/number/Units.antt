@@ -34,7 +34,7 @@ abbrev pub from_minor : Tree → List Tree → Result Tree Refusal
 from_minor input (digits ∷ []) = ok_then (number input) (λ n. ok_then (scale digits) (λ s. limited_decimal (Some (n, s))))
 from_minor input other = Err unexpected_arguments
 
--- a whole number of the smaller unit
+-- an integer of the smaller unit
 abbrev pub minor : Option Dec → Result Tree Refusal
 minor (Some d) = Ok (scalar (integer d.0))
 minor None = Err past_limit

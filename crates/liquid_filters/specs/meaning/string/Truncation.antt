@@ -16,7 +16,7 @@ abbrev pub truncated : ℤ → List ℕ → Tree → Tree
 truncated n ending nil = nil
 truncated n ending input = written (strings.truncated n ending (render input))
 
--- the same for a value that must be a whole number, unless the input is nil
+-- the same for a value that must be an integer, unless the input is nil
 abbrev pub truncated_to : Tree → List ℕ → Tree → Result Tree Refusal
 truncated_to count ending nil = Ok nil
 truncated_to count ending input = ok_then (whole count) (λ n. Ok (truncated n ending input))
@@ -33,7 +33,7 @@ abbrev pub words_truncated : ℤ → List ℕ → Tree → Tree
 words_truncated n ending nil = nil
 words_truncated n ending input = written (strings.truncated_words n ending (render input))
 
--- the same for a value that must be a whole number, unless the input is nil
+-- the same for a value that must be an integer, unless the input is nil
 abbrev pub words_truncated_to : Tree → List ℕ → Tree → Result Tree Refusal
 words_truncated_to count ending nil = Ok nil
 words_truncated_to count ending input = ok_then (whole count) (λ n. Ok (words_truncated n ending input))

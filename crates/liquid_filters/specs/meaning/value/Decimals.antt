@@ -18,12 +18,12 @@ abbrev pub written_decimal : Tree → Option Dec
 written_decimal (scalar x) = scalar_decimal x
 written_decimal other = None
 
--- a whole number as a decimal, and otherwise another decimal, if there is one
+-- an integer as a decimal, and otherwise another decimal, if there is one
 abbrev pub whole_or : Option ℤ → Option Dec → Option Dec
 whole_or (Some n) other = Some (n, 0)
 whole_or None other = other
 
--- the decimal of a value: its whole number, if it has one, and otherwise the decimal that it writes
+-- the decimal of a value: its integer, if it has one, and otherwise the decimal that it writes
 abbrev pub decimal_of : Tree → Option Dec
 decimal_of t = whole_or (number_of t) (written_decimal t)
 
@@ -35,7 +35,7 @@ decimal t = ok_or (decimal_of t) (whole_number_expected t)
 abbrev pub is_whole : Dec → Bool
 is_whole d = d.1 == 0
 
--- the value of a decimal: a whole number, or the text that writes it
+-- the value of a decimal: an integer, or the text that writes it
 abbrev pub decimal_tree : Dec → Tree
 decimal_tree d = if is_whole d then scalar (integer d.0) else scalar (text (written d))
 

@@ -7,12 +7,12 @@ use Rattle.liquid_scalar.specs.meaning.Scalar.{Scal, integer, text, to_integer, 
 use Rattle.liquid_value.specs.meaning.Tree.{Tree, nil, scalar}
 use Rattle.liquid_filters.specs.meaning.value.Errors.{past_limit, whole_number_expected}
 
--- the number of a scalar: a number itself, or what a text writes between white space
+-- the number of a scalar: a number itself, or what a text writes between whitespace
 abbrev pub scalar_number : Scal → Option ℤ
 scalar_number (text t) = whole_number_of_text (trim t)
 scalar_number other = to_integer other
 
--- the whole number of a value, if it is one
+-- the integer of a value, if it is one
 abbrev pub whole_of : Tree → Option ℤ
 whole_of (scalar x) = scalar_number x
 whole_of other = None
@@ -22,7 +22,7 @@ abbrev pub number_of : Tree → Option ℤ
 number_of nil = Some (pos 0)
 number_of other = whole_of other
 
--- the whole number, or the error for a value that is not one
+-- the integer, or the error for a value that is not one
 abbrev pub whole : Tree → Result ℤ Refusal
 whole t = ok_or (whole_of t) (whole_number_expected t)
 

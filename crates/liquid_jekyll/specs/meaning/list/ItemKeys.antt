@@ -9,7 +9,7 @@ use Rattle.liquid_strings.specs.meaning.Split.{split}
 use Rattle.liquid_filters.specs.meaning.value.Parts.{property}
 use Rattle.liquid_jekyll.specs.meaning.text.Spaces.{stripped}
 
--- nil and truth values lead to `false`
+-- nil and booleans lead to `false`
 abbrev pub leads_to_false : Tree → Bool
 leads_to_false nil = true
 leads_to_false (scalar (boolean b)) = true
@@ -36,12 +36,12 @@ has_dot path = list_any (λ b. b == byte ".") path
 abbrev pub attribute : List ℕ → Tree → Result Tree Refusal
 attribute path item = if has_dot path then walked (split (codes ".") path) item else property path item
 
--- the whole number that a text writes without a plus sign
+-- the integer that a text writes without a plus sign
 abbrev pub unsigned_number : List ℕ → Option ℤ
 unsigned_number [] = whole_number_of_text []
 unsigned_number (b ∷ bs) = if b == byte "+" then None else whole_number_of_text (b ∷ bs)
 
--- the number that a text writes between white space
+-- the number that a text writes between whitespace
 abbrev pub number_of_scalar : Scal → Option ℤ
 number_of_scalar (text t) = unsigned_number (stripped t)
 number_of_scalar other = None

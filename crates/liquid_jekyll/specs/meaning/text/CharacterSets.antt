@@ -18,7 +18,7 @@ use Rattle.liquid_jekyll.specs.declared.text.character_sets.CharacterSet.TheVari
   Western,
 }
 
--- white space of ASCII: a space, or a tab, line feed, vertical tab, form feed or carriage return
+-- whitespace of ASCII: a space, or a tab, line feed, vertical tab, form feed or carriage return
 abbrev pub is_space : ℕ → Bool
 is_space c = c == 32 || (nat_le 9 c && nat_le c 13)
 

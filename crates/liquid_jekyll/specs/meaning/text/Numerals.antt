@@ -1,4 +1,4 @@
--- Whole numbers at the start of a text.
+-- Integers at the start of a text.
 use Rattle.std.specs.Prelude.{ℕ, ◌+◌, Bool, ◌==◌, ◌&&◌, ◌||◌, nat_le, cond, List, [], ◌∷◌, drop, take}
 use Rattle.std.specs.List.{prefix_len}
 use Rattle.std.specs.Str.{byte}
@@ -20,6 +20,6 @@ digit_count text = prefix_len is_digit (drop (sign_length text) text)
 abbrev pub numeral_at : List ℕ → List ℕ
 numeral_at text = cond (digit_count text == 0) [] (take (sign_length text + digit_count text) text)
 
--- the same after white space
+-- the same after whitespace
 abbrev pub numeral : List ℕ → List ℕ
 numeral text = numeral_at (without_leading text)

@@ -47,7 +47,7 @@ is_quote c = c == byte "\"" || c == byte "'"
 abbrev pub is_ascii_word : ℕ → Bool
 is_ascii_word c = is_ascii_alphanumeric c || c == byte "_"
 
--- a quote before emphasis: `_` or `*`, and no white space behind
+-- a quote before emphasis: `_` or `*`, and no whitespace behind
 abbrev pub opens_emphasis : List ℕ → Bool
 opens_emphasis text = is_quote (at text 0) && ((at text 1 == byte "_" || at text 1 == byte "*") && not (is_space (at text 2)))
 
@@ -69,7 +69,7 @@ is_decade c d e f = c == byte "'" && (is_ascii_digit d && (is_ascii_digit e && f
 abbrev pub closes_after : ℕ → Bool
 closes_after c = not (list_any (λ mark. mark == c) (codes " \\\t\r\n[{(-"))
 
--- what ends the word before a quote: white space, or `s` as a whole word
+-- what ends the word before a quote: whitespace, or `s` as a whole word
 abbrev pub ends_word : ℕ → ℕ → Bool
 ends_word c d = is_space c || (c == byte "s" && not (is_word d))
 

@@ -19,7 +19,7 @@ use Rattle.liquid_jekyll.specs.meaning.text.Words as words
 use Rattle.liquid_jekyll.specs.declared.url.parts.UrlPart.TheVariants.{Whole}
 use Rattle.liquid_jekyll.specs.meaning.url.Parts.{cleaned}
 
--- the text with one space for each run of white space, and none at the ends
+-- the text with one space for each run of whitespace, and none at the ends
 abbrev pub normalized : Tree → Tree
 normalized input = written (words.normalized (render input))
 

@@ -19,7 +19,7 @@ options_of o = record {
   cols = option_map expression_of o.cols;
 }
 
--- the whole number that a value is; nil is none
+-- the integer that a value is; nil is none
 abbrev pub number_given : Tree → Result (Option ℤ) Refusal
 number_given nil = Ok None
 number_given t = ok_then (whole t) (λ n. Ok (Some n))
