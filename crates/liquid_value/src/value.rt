@@ -56,7 +56,7 @@ impl Value {
         }
     }
 
-    /// Returns the name of the value's type, such as `integer`, `string`, `array` or `nil`.
+    /// Returns the name of the value's type, such as `whole number`, `string`, `array` or `nil`.
     pub fn type_name(&self) -> &'static str
         ensures { result.now ≡ type_name (view self.now) }
     {

@@ -47,7 +47,7 @@ pub trait ValueView {
         Ok(ValueCow::Owned(self.to_value(alloc)?))
     }
 
-    /// Returns the name of the value's type, such as `integer`, `string`, `array` or `nil`.
+    /// Returns the name of the value's type, such as `whole number`, `string`, `array` or `nil`.
     #[tactic(auto, using(crate::proofs::Outlines::name_of_outline))]
     final fn type_name(&self) -> &'static str
         ensures { result.now ≡ type_name (tree self.now) }

@@ -24,7 +24,7 @@ impl<T: AsStr> ScalarOf<T> {
         ScalarSource { scalar: self }
     }
 
-    /// Returns the name of the scalar's kind: `integer`, `boolean`, `string`, `date` or `date time`.
+    /// Returns the name of the scalar's kind: `whole number`, `boolean`, `string`, `date` or `date time`.
     pub fn type_name(&self) -> &'static str
         ensures { result.now ≡ scalar_type_name (scal T.text self.now) }
     {
