@@ -14,7 +14,7 @@ impl FilterKind for Quoted {
     ghost sense = { quoted };
 
     fn row(&self) -> FilterRow {
-        FilterRow::new("quoted", "The text in quotes.", &[])
+        FilterRow::new("quoted", "Puts a string in quotes.", &[])
     }
 
     fn answer(&self, alloc: Global, input: &Value, _: &CallArguments<'_>) -> Result<Value, Error> {

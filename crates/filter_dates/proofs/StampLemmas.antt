@@ -1,5 +1,37 @@
 -- A stamp is read as the numbers that it was made of.
-use Rattle.std.proofs.Common.{◌≡◌, ◌≢◌, ℕ, suc, ◌+◌, ◌*◌, ◌/◌, ◌%◌, ◌<◌, ◌≤◌, true, false, List, [], ◌∷◌, ◌++◌, length, map, refl, sym, ap, ◌∙◌, arith, eqb, nat_le, ℤ, pos, negsuc, neg_ℤ, Some, IsAscii}
+use Rattle.std.proofs.Common.{
+  ◌≡◌,
+  ◌≢◌,
+  ℕ,
+  suc,
+  ◌+◌,
+  ◌*◌,
+  ◌/◌,
+  ◌%◌,
+  ◌<◌,
+  ◌≤◌,
+  true,
+  false,
+  List,
+  [],
+  ◌∷◌,
+  ◌++◌,
+  length,
+  map,
+  refl,
+  sym,
+  ap,
+  ◌∙◌,
+  arith,
+  eqb,
+  nat_le,
+  ℤ,
+  pos,
+  negsuc,
+  neg_ℤ,
+  Some,
+  IsAscii,
+}
 use Rattle.std.specs.Prelude.{unsigned_abs}
 use Rattle.std.specs.Char.{is_whitespace}
 use Rattle.std.specs.List.{All}

@@ -52,12 +52,12 @@ static NO_KEYWORDS: [ParameterReflection; 0] = [];
 static ITEM_AND_CONDITION: [ParameterReflection; 2] = [
     ParameterReflection {
         name: "item",
-        description: "The name of an item in the condition, as a text literal.",
+        description: "The name of an item in the condition, as a string literal.",
         is_optional: false,
     },
     ParameterReflection {
         name: "condition",
-        description: "The condition, as a text literal.",
+        description: "The condition, as a string literal.",
         is_optional: false,
     },
 ];
@@ -71,8 +71,8 @@ impl FilterReflection for ExpressionKind {
 
     fn description(&self) -> &str {
         match self {
-            ExpressionKind::WhereExp => "The items for which a condition holds.",
-            ExpressionKind::FindExp => "The first item for which a condition holds.",
+            ExpressionKind::WhereExp => "Keeps the items for which a condition holds.",
+            ExpressionKind::FindExp => "Returns the first item for which a condition holds.",
         }
     }
 

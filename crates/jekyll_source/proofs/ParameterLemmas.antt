@@ -50,7 +50,15 @@ use Rattle.std.proofs.lemmas.Bool.Decides.{nat_tests}
 use Rattle.std.proofs.lemmas.List.{drop_more}
 use Rattle.std.proofs.lemmas.List.Sums.{prefix_len-le-length, prefix_len_stops}
 use Rattle.std.proofs.lemmas.Str.{IsCharBoundary-before_ascii, IsCharBoundary-end}
-use Rattle.jekyll_source.specs.meaning.Parameters.{from_quote, quoted_len, split_at_quote, split_quoted, unescaped, unescaped_in, unescaped_text}
+use Rattle.jekyll_source.specs.meaning.Parameters.{
+  from_quote,
+  quoted_len,
+  split_at_quote,
+  split_quoted,
+  unescaped,
+  unescaped_in,
+  unescaped_text,
+}
 use Rattle.jekyll_source.specs.meaning.Splits.{Parts, is_quote}
 use Rattle.jekyll_source.specs.declared.literals.Quote.{Quote}
 use Rattle.jekyll_source.specs.declared.literals.Quote.TheVariants.{Double, Single}

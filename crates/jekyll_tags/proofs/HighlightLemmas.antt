@@ -6,7 +6,16 @@ use Rattle.liquid_error.specs.declared.place.Place.{Place}
 use Rattle.liquid_error.specs.meaning.Refusal.{Refusal, ok_then}
 use Rattle.liquid_value.specs.meaning.Render.{render}
 use Rattle.liquid_value.specs.meaning.Tree.{Tree}
-use Rattle.liquid_parser.specs.meaning.Handed.{Token, Tokens, expect_identifier, expect_literal, expect_value, first_of, next, or_unexpected}
+use Rattle.liquid_parser.specs.meaning.Handed.{
+  Token,
+  Tokens,
+  expect_identifier,
+  expect_literal,
+  expect_value,
+  first_of,
+  next,
+  or_unexpected,
+}
 use Rattle.liquid_parser.proofs.StepLemmas.{then_refused}
 use Rattle.liquid_plugins.specs.meaning.Expression.{ExpressionShape}
 use Rattle.liquid_strings.specs.meaning.Cases.{lowercased}

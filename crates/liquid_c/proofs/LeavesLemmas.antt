@@ -1,5 +1,32 @@
 -- From how a page ended to what a call leaves with its caller.
-use Rattle.std.proofs.Common.{◌≡◌, ℕ, ◌≤◌, ◌⊎◌, inl, inr, List, [], ◌++◌, length, min, take, drop, nat_le, Option, None, Some, Result, Ok, Err, if◌then◌else◌, true≢false, refl, sym, subst, arith}
+use Rattle.std.proofs.Common.{
+  ◌≡◌,
+  ℕ,
+  ◌≤◌,
+  ◌⊎◌,
+  inl,
+  inr,
+  List,
+  [],
+  ◌++◌,
+  length,
+  min,
+  take,
+  drop,
+  nat_le,
+  Option,
+  None,
+  Some,
+  Result,
+  Ok,
+  Err,
+  if◌then◌else◌,
+  true≢false,
+  refl,
+  sym,
+  subst,
+  arith,
+}
 use Rattle.std.specs.Prelude.{MatchOption, IfSome, IsNone, option_and_then, option_map}
 use Rattle.liquid_error.specs.declared.place.Place.{Place}
 use Rattle.liquid_error.specs.declared.error.Error.{Error}

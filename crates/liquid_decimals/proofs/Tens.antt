@@ -1,5 +1,29 @@
 -- Powers of ten, and their products.
-use Rattle.std.proofs.Common.{◌≡◌, ◌≢◌, ℕ, ℤ, pos, negsuc, suc, ◌-◌, ◌*◌, ◌*ℤ◌, ◌^◌, ◌<◌, ◌≤◌, neg_ℤ, None, true, false, eqb, unsigned_abs, refl, sym, ap, arith}
+use Rattle.std.proofs.Common.{
+  ◌≡◌,
+  ◌≢◌,
+  ℕ,
+  ℤ,
+  pos,
+  negsuc,
+  suc,
+  ◌-◌,
+  ◌*◌,
+  ◌*ℤ◌,
+  ◌^◌,
+  ◌<◌,
+  ◌≤◌,
+  neg_ℤ,
+  None,
+  true,
+  false,
+  eqb,
+  unsigned_abs,
+  refl,
+  sym,
+  ap,
+  arith,
+}
 use Rattle.std.specs.Int.Signed.{le_z, lt_z}
 use Rattle.std.proofs.Math.Nat.{one-le-pow, pow-le-pow_right, zero-mul}
 use Rattle.std.proofs.lemmas.Bool.Decides.{nat_tests}

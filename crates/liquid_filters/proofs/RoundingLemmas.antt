@@ -1,5 +1,27 @@
 -- Rounding to a unit that is far greater than the number.
-use Rattle.std.proofs.Common.{◌≡◌, ℕ, ℤ, pos, negsuc, suc, ◌+◌, ◌*◌, ◌^◌, ◌<◌, ◌≤◌, FitsSigned, w64, true, unsigned_abs, Option, None, refl, sym, ap, arith}
+use Rattle.std.proofs.Common.{
+  ◌≡◌,
+  ℕ,
+  ℤ,
+  pos,
+  negsuc,
+  suc,
+  ◌+◌,
+  ◌*◌,
+  ◌^◌,
+  ◌<◌,
+  ◌≤◌,
+  FitsSigned,
+  w64,
+  true,
+  unsigned_abs,
+  Option,
+  None,
+  refl,
+  sym,
+  ap,
+  arith,
+}
 use Rattle.std.specs.Prelude.{neg_ℤ}
 use Rattle.std.specs.Int.Signed.{lt_z}
 use Rattle.std.proofs.Math.Nat.{pow-le-pow_right, one-le-pow}

@@ -20,7 +20,11 @@ impl FilterKind for DateKind {
     ghost sense = { date_sense };
 
     fn row(&self) -> FilterRow {
-        FilterRow::new("date", "A date or a date time by a pattern.", &PATTERN)
+        FilterRow::new(
+            "date",
+            "Formats a date or a date time by a pattern.",
+            &PATTERN,
+        )
     }
 
     fn answer(

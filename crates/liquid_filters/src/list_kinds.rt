@@ -43,49 +43,45 @@ impl FilterKind for ListKind {
         match self {
             ListKind::Compact => FilterRow::new(
                 "compact",
-                "The items that are not nil.",
+                "Removes the items that are nil.",
                 &PROPERTY,
             ),
-            ListKind::Concat => FilterRow::new(
-                "concat",
-                "The items, and those of an array.",
-                &ARRAY,
+            ListKind::Concat => FilterRow::new("concat", "Appends the items of an array.", &ARRAY),
+            ListKind::Find => FilterRow::new(
+                "find",
+                "Returns the first item with a property.",
+                &WHERE,
             ),
-            ListKind::Find => FilterRow::new("find", "The first item with a property.", &WHERE),
             ListKind::FindIndex => FilterRow::new(
                 "find_index",
-                "The index of the first item with a property.",
+                "Returns the index of the first item with a property.",
                 &WHERE,
             ),
-            ListKind::First => FilterRow::new("first", "The first item.", &NONE),
-            ListKind::Has => FilterRow::new(
-                "has",
-                "Whether there is an item with a property.",
+            ListKind::First => FilterRow::new("first", "Returns the first item.", &NONE),
+            ListKind::Has => FilterRow::new("has", "Tests whether an item has a property.", &WHERE),
+            ListKind::Join => FilterRow::new("join", "Joins the items to a string.", &SEPARATOR),
+            ListKind::Last => FilterRow::new("last", "Returns the last item.", &NONE),
+            ListKind::Map => FilterRow::new("map", "Returns a property of each item.", &NAME),
+            ListKind::Reject => FilterRow::new(
+                "reject",
+                "Removes the items with a property.",
                 &WHERE,
             ),
-            ListKind::Join => FilterRow::new(
-                "join",
-                "The texts of the items in a row.",
-                &SEPARATOR,
-            ),
-            ListKind::Last => FilterRow::new("last", "The last item.", &NONE),
-            ListKind::Map => FilterRow::new("map", "A property of each item.", &NAME),
-            ListKind::Reject => FilterRow::new("reject", "The items without a property.", &WHERE),
-            ListKind::Reverse => FilterRow::new("reverse", "The items from last to first.", &NONE),
-            ListKind::Sort => FilterRow::new("sort", "The items in order.", &PROPERTY),
+            ListKind::Reverse => FilterRow::new("reverse", "Reverses the items.", &NONE),
+            ListKind::Sort => FilterRow::new("sort", "Sorts the items.", &PROPERTY),
             ListKind::SortNatural => FilterRow::new(
                 "sort_natural",
-                "The items in order, whatever their case.",
+                "Sorts the items, ignoring case.",
                 &PROPERTY,
             ),
             ListKind::SortNumeric => FilterRow::new(
                 "sort_numeric",
-                "The items in the order of their numbers.",
+                "Sorts the items by their numbers.",
                 &PROPERTY,
             ),
-            ListKind::Sum => FilterRow::new("sum", "The sum of the items.", &PROPERTY),
-            ListKind::Uniq => FilterRow::new("uniq", "Each item once.", &PROPERTY),
-            ListKind::Where => FilterRow::new("where", "The items with a property.", &WHERE),
+            ListKind::Sum => FilterRow::new("sum", "Adds up the items.", &PROPERTY),
+            ListKind::Uniq => FilterRow::new("uniq", "Removes repeated items.", &PROPERTY),
+            ListKind::Where => FilterRow::new("where", "Keeps the items with a property.", &WHERE),
         }
     }
 

@@ -35,46 +35,50 @@ impl FilterKind for NumberKind {
 
     fn row(&self) -> FilterRow {
         match self {
-            NumberKind::Abs => FilterRow::new("abs", "The number without its sign.", &NONE),
-            NumberKind::AtLeast => FilterRow::new("at_least", "The greater number.", &NUMBER),
-            NumberKind::AtMost => FilterRow::new("at_most", "The lesser number.", &NUMBER),
-            NumberKind::Ceil => FilterRow::new(
-                "ceil",
-                "The number rounded up to a whole one.",
-                &NONE,
+            NumberKind::Abs => FilterRow::new("abs", "Removes the sign of a number.", &NONE),
+            NumberKind::AtLeast => FilterRow::new(
+                "at_least",
+                "Returns the greater of two numbers.",
+                &NUMBER,
             ),
+            NumberKind::AtMost => FilterRow::new(
+                "at_most",
+                "Returns the lesser of two numbers.",
+                &NUMBER,
+            ),
+            NumberKind::Ceil => FilterRow::new("ceil", "Rounds up to an integer.", &NONE),
             NumberKind::Decimal => FilterRow::new(
                 "decimal",
-                "The number with exactly so many digits after the point.",
+                "Writes a number with a fixed number of digits after the point.",
                 &DECIMAL,
             ),
             NumberKind::DividedBy => FilterRow::new(
                 "divided_by",
-                "The quotient, of whole numbers rounded down.",
+                "Divides by a number. The quotient of integers is rounded down.",
                 &DIVISOR,
             ),
-            NumberKind::Floor => FilterRow::new(
-                "floor",
-                "The number rounded down to a whole one.",
-                &NONE,
-            ),
+            NumberKind::Floor => FilterRow::new("floor", "Rounds down to an integer.", &NONE),
             NumberKind::FromMinor => FilterRow::new(
                 "from_minor",
-                "A number of cents in the larger unit.",
+                "Converts cents, or another smaller unit, to the larger unit.",
                 &UNIT,
             ),
-            NumberKind::Minus => FilterRow::new("minus", "The difference.", &NUMBER),
-            NumberKind::Modulo => FilterRow::new("modulo", "The rest of a division.", &NUMBER),
-            NumberKind::Plus => FilterRow::new("plus", "The sum.", &NUMBER),
+            NumberKind::Minus => FilterRow::new("minus", "Subtracts a number.", &NUMBER),
+            NumberKind::Modulo => FilterRow::new(
+                "modulo",
+                "Returns the remainder of a division.",
+                &NUMBER,
+            ),
+            NumberKind::Plus => FilterRow::new("plus", "Adds a number.", &NUMBER),
             NumberKind::Round => FilterRow::new(
                 "round",
-                "The nearest multiple of a power of ten.",
+                "Rounds to a number of digits after the point.",
                 &DIGITS,
             ),
-            NumberKind::Times => FilterRow::new("times", "The product.", &NUMBER),
+            NumberKind::Times => FilterRow::new("times", "Multiplies by a number.", &NUMBER),
             NumberKind::ToMinor => FilterRow::new(
                 "to_minor",
-                "The number in cents or another smaller unit.",
+                "Converts to cents, or to another smaller unit.",
                 &UNIT,
             ),
         }

@@ -5,7 +5,7 @@ pub(crate) static NONE: [ParameterReflection; 0] = [];
 
 pub(crate) static TEXT: [ParameterReflection; 1] = [ParameterReflection {
     name: "text",
-    description: "The other text.",
+    description: "The other string.",
     is_optional: false,
 }];
 
@@ -38,12 +38,12 @@ pub(crate) static LAST_REPLACEMENT: [ParameterReflection; 2] = [
 pub(crate) static SLICE: [ParameterReflection; 2] = [
     ParameterReflection {
         name: "start",
-        description: "The place of the first one, from the end where it is below 0.",
+        description: "The position of the first one, from the end if it is negative.",
         is_optional: false,
     },
     ParameterReflection {
         name: "length",
-        description: "How many there are, or one.",
+        description: "How many are returned, or one.",
         is_optional: true,
     },
 ];
@@ -51,12 +51,12 @@ pub(crate) static SLICE: [ParameterReflection; 2] = [
 pub(crate) static CUT: [ParameterReflection; 2] = [
     ParameterReflection {
         name: "length",
-        description: "How many there are at most.",
+        description: "How many are kept at most.",
         is_optional: true,
     },
     ParameterReflection {
         name: "ellipsis",
-        description: "What is put after them, or three dots.",
+        description: "What is appended if some are left out, or three dots.",
         is_optional: true,
     },
 ];

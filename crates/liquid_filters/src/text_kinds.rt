@@ -54,112 +54,108 @@ impl FilterKind for TextKind {
 
     fn row(&self) -> FilterRow {
         match self {
-            TextKind::Append => FilterRow::new(
-                "append",
-                "The text with another one after it.",
-                &TEXT,
-            ),
-            TextKind::Base64Decode => FilterRow::new(
-                "base64_decode",
-                "The text that is written in base64.",
-                &NONE,
-            ),
-            TextKind::Base64Encode => FilterRow::new("base64_encode", "The text in base64.", &NONE),
+            TextKind::Append => FilterRow::new("append", "Appends a string.", &TEXT),
+            TextKind::Base64Decode => FilterRow::new("base64_decode", "Decodes base64.", &NONE),
+            TextKind::Base64Encode => FilterRow::new("base64_encode", "Encodes as base64.", &NONE),
             TextKind::Base64UrlSafeDecode => FilterRow::new(
                 "base64_url_safe_decode",
-                "The text that is written in base64 for a URL.",
+                "Decodes base64 of a URL.",
                 &NONE,
             ),
             TextKind::Base64UrlSafeEncode => FilterRow::new(
                 "base64_url_safe_encode",
-                "The text in base64 for a URL.",
+                "Encodes as base64 for a URL.",
                 &NONE,
             ),
             TextKind::Capitalize => FilterRow::new(
                 "capitalize",
-                "The first character in upper case, the others in lower case.",
+                "Converts the first character to upper case, and the others to lower case.",
                 &NONE,
             ),
-            TextKind::Downcase => FilterRow::new("downcase", "The text in lower case.", &NONE),
-            TextKind::Escape => FilterRow::new("escape", "The text for HTML.", &NONE),
+            TextKind::Downcase => FilterRow::new("downcase", "Converts to lower case.", &NONE),
+            TextKind::Escape => FilterRow::new(
+                "escape",
+                "Escapes the special characters of HTML.",
+                &NONE,
+            ),
             TextKind::EscapeOnce => FilterRow::new(
                 "escape_once",
-                "The text for HTML, but entities stay.",
+                "Escapes the special characters of HTML, but keeps entities.",
                 &NONE,
             ),
-            TextKind::H => FilterRow::new("h", "The text for HTML.", &NONE),
-            TextKind::Lstrip => FilterRow::new(
-                "lstrip",
-                "Without white space at the start.",
-                &NONE,
-            ),
+            TextKind::H => FilterRow::new("h", "Escapes the special characters of HTML.", &NONE),
+            TextKind::Lstrip => FilterRow::new("lstrip", "Removes whitespace at the start.", &NONE),
             TextKind::NewlineToBr => FilterRow::new(
                 "newline_to_br",
-                "With a tag before each line feed.",
+                "Inserts a line break of HTML before each line feed.",
                 &NONE,
             ),
-            TextKind::Prepend => FilterRow::new(
-                "prepend",
-                "The text with another one before it.",
+            TextKind::Prepend => FilterRow::new("prepend", "Prepends a string.", &TEXT),
+            TextKind::Remove => FilterRow::new(
+                "remove",
+                "Removes each occurrence of a string.",
                 &TEXT,
             ),
-            TextKind::Remove => FilterRow::new("remove", "Without a text, wherever it is.", &TEXT),
             TextKind::RemoveFirst => FilterRow::new(
                 "remove_first",
-                "Without the first place of a text.",
+                "Removes the first occurrence of a string.",
                 &TEXT,
             ),
             TextKind::RemoveLast => FilterRow::new(
                 "remove_last",
-                "Without the last place of a text.",
+                "Removes the last occurrence of a string.",
                 &TEXT,
             ),
             TextKind::Replace => FilterRow::new(
                 "replace",
-                "With a text in place of another.",
+                "Replaces each occurrence of a string.",
                 &REPLACEMENT,
             ),
             TextKind::ReplaceFirst => FilterRow::new(
                 "replace_first",
-                "With a text in place of another, at its first place.",
+                "Replaces the first occurrence of a string.",
                 &REPLACEMENT,
             ),
             TextKind::ReplaceLast => FilterRow::new(
                 "replace_last",
-                "With a text in place of another, at its last place.",
+                "Replaces the last occurrence of a string.",
                 &LAST_REPLACEMENT,
             ),
-            TextKind::Rstrip => FilterRow::new("rstrip", "Without white space at the end.", &NONE),
-            TextKind::Slice => FilterRow::new("slice", "Characters of the text, or items.", &SLICE),
+            TextKind::Rstrip => FilterRow::new("rstrip", "Removes whitespace at the end.", &NONE),
+            TextKind::Slice => FilterRow::new(
+                "slice",
+                "Returns some of the characters or items.",
+                &SLICE,
+            ),
             TextKind::Split => FilterRow::new(
                 "split",
-                "The pieces between the places of a text.",
+                "Splits at each occurrence of a string.",
                 &TEXT,
             ),
-            TextKind::Strip => FilterRow::new("strip", "Without white space at both ends.", &NONE),
-            TextKind::StripHtml => FilterRow::new(
-                "strip_html",
-                "The text without the tags of HTML.",
-                &NONE,
-            ),
+            TextKind::Strip => FilterRow::new("strip", "Removes whitespace at both ends.", &NONE),
+            TextKind::StripHtml => FilterRow::new("strip_html", "Removes the tags of HTML.", &NONE),
             TextKind::StripNewlines => FilterRow::new(
                 "strip_newlines",
-                "The text without line ends.",
+                "Removes line ends.",
                 &NONE,
             ),
-            TextKind::Truncate => FilterRow::new("truncate", "At most so many characters.", &CUT),
-            TextKind::TruncateWords => FilterRow::new(
-                "truncatewords",
-                "At most so many words.",
+            TextKind::Truncate => FilterRow::new(
+                "truncate",
+                "Truncates to a number of characters.",
                 &CUT,
             ),
-            TextKind::Upcase => FilterRow::new("upcase", "The text in upper case.", &NONE),
+            TextKind::TruncateWords => FilterRow::new(
+                "truncatewords",
+                "Truncates to a number of words.",
+                &CUT,
+            ),
+            TextKind::Upcase => FilterRow::new("upcase", "Converts to upper case.", &NONE),
             TextKind::UrlDecode => FilterRow::new(
                 "url_decode",
-                "The text that is written for a URL.",
+                "Decodes a string of a URL.",
                 &NONE,
             ),
-            TextKind::UrlEncode => FilterRow::new("url_encode", "The text for a URL.", &NONE),
+            TextKind::UrlEncode => FilterRow::new("url_encode", "Encodes for a URL.", &NONE),
         }
     }
 

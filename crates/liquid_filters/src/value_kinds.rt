@@ -25,16 +25,12 @@ impl FilterKind for ValueKind {
         match self {
             ValueKind::Default => FilterRow {
                 name: "default",
-                description: "The value in place of an input that is nil, false or empty.",
+                description: "Replaces an input that is nil, false or empty.",
                 parameters: &VALUE,
                 keywords: &ALLOW_FALSE,
             },
-            ValueKind::Json => FilterRow::new("json", "The input as JSON.", &NONE),
-            ValueKind::Size => FilterRow::new(
-                "size",
-                "How many entries or characters there are.",
-                &NONE,
-            ),
+            ValueKind::Json => FilterRow::new("json", "Converts the input to JSON.", &NONE),
+            ValueKind::Size => FilterRow::new("size", "Counts the entries or characters.", &NONE),
         }
     }
 

@@ -1,5 +1,29 @@
 -- Bytes escaped one by one.
-use Rattle.std.proofs.Common.{◌≡◌, ℕ, ◌+◌, ◌-◌, ◌<◌, ◌≤◌, List, [], ◌∷◌, ◌++◌, None, Some, length, take, drop, get_or, sym, ap, ◌∙◌, append_assoc, append-nil, arith, unwrap_or}
+use Rattle.std.proofs.Common.{
+  ◌≡◌,
+  ℕ,
+  ◌+◌,
+  ◌-◌,
+  ◌<◌,
+  ◌≤◌,
+  List,
+  [],
+  ◌∷◌,
+  ◌++◌,
+  None,
+  Some,
+  length,
+  take,
+  drop,
+  get_or,
+  sym,
+  ap,
+  ◌∙◌,
+  append_assoc,
+  append-nil,
+  arith,
+  unwrap_or,
+}
 use Rattle.std.specs.List.{slice_range}
 use Rattle.std.proofs.lemmas.Grind.{flat_map-append}
 use Rattle.std.proofs.lemmas.Bool.Decides.{nat_tests}

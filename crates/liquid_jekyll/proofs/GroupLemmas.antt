@@ -1,5 +1,23 @@
 -- The first keys of groups, and the members of a group.
-use Rattle.std.proofs.Common.{◌≡◌, true, false, List, [], ◌∷◌, ◌++◌, map, String, Global, refl, sym, ap, ◌∙◌, append_assoc, string_bytes, string_cmp}
+use Rattle.std.proofs.Common.{
+  ◌≡◌,
+  true,
+  false,
+  List,
+  [],
+  ◌∷◌,
+  ◌++◌,
+  map,
+  String,
+  Global,
+  refl,
+  sym,
+  ap,
+  ◌∙◌,
+  append_assoc,
+  string_bytes,
+  string_cmp,
+}
 use Rattle.std.specs.Borrow.{Bor}
 use Rattle.std.specs.BTreeMap.{insert_entry}
 use Rattle.std.specs.List.Sorted.{IsPermutation}

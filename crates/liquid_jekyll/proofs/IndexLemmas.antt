@@ -1,5 +1,37 @@
 -- The first name of an index page in a text.
-use Rattle.std.proofs.Common.{◌≡◌, ℕ, ◌+◌, ◌<◌, ◌≤◌, Bool, true, false, List, [], ◌∷◌, ◌++◌, ◌&&◌, ◌⊎◌, inl, inr, ⊎_elim, Some, None, cond, length, take, drop, get_or, refl, sym, ap, ◌∙◌, append_assoc, arith, subst}
+use Rattle.std.proofs.Common.{
+  ◌≡◌,
+  ℕ,
+  ◌+◌,
+  ◌<◌,
+  ◌≤◌,
+  Bool,
+  true,
+  false,
+  List,
+  [],
+  ◌∷◌,
+  ◌++◌,
+  ◌&&◌,
+  ◌⊎◌,
+  inl,
+  inr,
+  ⊎_elim,
+  Some,
+  None,
+  cond,
+  length,
+  take,
+  drop,
+  get_or,
+  refl,
+  sym,
+  ap,
+  ◌∙◌,
+  append_assoc,
+  arith,
+  subst,
+}
 use Rattle.std.specs.Prelude.{codes, nat_eq}
 use Rattle.std.specs.Char.{encode_utf8}
 use Rattle.std.specs.List.{starts_with}

@@ -1,5 +1,32 @@
 -- Runs of characters, read one by one.
-use Rattle.std.proofs.Common.{◌≡◌, ℕ, ◌+◌, ◌-◌, ◌<◌, ◌≤◌, suc, Bool, true, false, not, List, [], ◌∷◌, ◌++◌, ◌&&◌, eqb, length, take, get_or, refl, sym, ap, ◌∙◌, cond, arith}
+use Rattle.std.proofs.Common.{
+  ◌≡◌,
+  ℕ,
+  ◌+◌,
+  ◌-◌,
+  ◌<◌,
+  ◌≤◌,
+  suc,
+  Bool,
+  true,
+  false,
+  not,
+  List,
+  [],
+  ◌∷◌,
+  ◌++◌,
+  ◌&&◌,
+  eqb,
+  length,
+  take,
+  get_or,
+  refl,
+  sym,
+  ap,
+  ◌∙◌,
+  cond,
+  arith,
+}
 use Rattle.std.proofs.Common.{add-zero, append_assoc, append-nil, eq-eqb}
 use Rattle.std.proofs.lemmas.Bool.{cond-true, cond-false, ne_eqb}
 use Rattle.std.specs.Char.{encode_utf8}

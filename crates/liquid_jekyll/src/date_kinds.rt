@@ -23,17 +23,29 @@ impl FilterKind for JekyllDateKind {
         match self.form {
             DateForm::Short => FilterRow::new(
                 "date_to_string",
-                "A date with the short name of its month.",
+                "Formats a date with the short name of its month.",
                 &DAY,
             ),
             DateForm::Long => {
-                FilterRow::new("date_to_long_string", "A date with its month.", &DAY)
+                FilterRow::new(
+                    "date_to_long_string",
+                    "Formats a date with the full name of its month.",
+                    &DAY,
+                )
             }
             DateForm::Xmlschema => {
-                FilterRow::new("date_to_xmlschema", "A date time for XML and Atom.", &NONE)
+                FilterRow::new(
+                    "date_to_xmlschema",
+                    "Formats a date time for XML and Atom.",
+                    &NONE,
+                )
             }
             DateForm::Rfc822 => {
-                FilterRow::new("date_to_rfc822", "A date time for mail and RSS.", &NONE)
+                FilterRow::new(
+                    "date_to_rfc822",
+                    "Formats a date time for mail and RSS.",
+                    &NONE,
+                )
             }
         }
     }

@@ -30,38 +30,32 @@ impl FilterKind for JekyllListKind {
         match self {
             JekyllListKind::ArrayToSentenceString => FilterRow::new(
                 "array_to_sentence_string",
-                "The items as they are listed in a sentence.",
+                "Lists the items as in a sentence.",
                 &CONNECTOR,
             ),
             JekyllListKind::Find => FilterRow::new(
                 "find",
-                "The first item whose key fits a value.",
+                "Returns the first item whose key fits a value.",
                 &KEY_AND_VALUE,
             ),
             JekyllListKind::GroupBy => {
-                FilterRow::new("group_by", "The items in groups by a key.", &KEY)
+                FilterRow::new("group_by", "Groups the items by a key.", &KEY)
             }
             JekyllListKind::Pop => {
-                FilterRow::new("pop", "The array without its last items.", &COUNT)
+                FilterRow::new("pop", "Removes the last items of an array.", &COUNT)
             }
-            JekyllListKind::Push => FilterRow::new(
-                "push",
-                "The array with one more item at its end.",
-                &ITEM,
-            ),
+            JekyllListKind::Push => FilterRow::new("push", "Appends an item to an array.", &ITEM),
             JekyllListKind::Shift => {
-                FilterRow::new("shift", "The array without its first items.", &COUNT)
+                FilterRow::new("shift", "Removes the first items of an array.", &COUNT)
             }
-            JekyllListKind::Sort => {
-                FilterRow::new("sort", "The items in the order of a key.", &SORT)
-            }
+            JekyllListKind::Sort => { FilterRow::new("sort", "Sorts the items by a key.", &SORT) }
             JekyllListKind::Unshift => FilterRow::new(
                 "unshift",
-                "The array with one more item at its start.",
+                "Prepends an item to an array.",
                 &ITEM,
             ),
             JekyllListKind::Where => {
-                FilterRow::new("where", "The items whose key fits a value.", &WHERE)
+                FilterRow::new("where", "Keeps the items whose key fits a value.", &WHERE)
             }
         }
     }

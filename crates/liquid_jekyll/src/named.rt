@@ -45,12 +45,12 @@ impl FilterReflection for NamedKind {
 
     fn description(&self) -> &str {
         match self {
-            NamedKind::RelativeUrl => "The text as a path of the site.",
-            NamedKind::AbsoluteUrl => "The text as a URL of the site.",
-            NamedKind::Markdownify => "What the host has rendered of a text in Markdown.",
-            NamedKind::Smartify => "The text with typographic signs.",
-            NamedKind::Sassify => "What the host has rendered of a text in Sass.",
-            NamedKind::Scssify => "What the host has rendered of a text in SCSS.",
+            NamedKind::RelativeUrl => "Converts to a path of the site.",
+            NamedKind::AbsoluteUrl => "Converts to a URL of the site.",
+            NamedKind::Markdownify => "Returns what the host has rendered of a string in Markdown.",
+            NamedKind::Smartify => "Replaces quotes, dashes and dots by typographic ones.",
+            NamedKind::Sassify => "Returns what the host has rendered of a string in Sass.",
+            NamedKind::Scssify => "Returns what the host has rendered of a string in SCSS.",
         }
     }
 

@@ -34,35 +34,47 @@ impl FilterKind for JekyllTextKind {
     fn row(&self) -> FilterRow {
         match self {
             JekyllTextKind::CgiEscape => {
-                FilterRow::new("cgi_escape", "The text for a URL.", &NONE)
+                FilterRow::new("cgi_escape", "Encodes for a URL.", &NONE)
             }
             JekyllTextKind::Inspect => {
-                FilterRow::new("inspect", "The input as JSON, for XML.", &NONE)
+                FilterRow::new(
+                    "inspect",
+                    "Converts the input to JSON, escaped for XML.",
+                    &NONE,
+                )
             }
-            JekyllTextKind::Jsonify => FilterRow::new("jsonify", "The input as JSON.", &NONE),
+            JekyllTextKind::Jsonify => FilterRow::new(
+                "jsonify",
+                "Converts the input to JSON.",
+                &NONE,
+            ),
             JekyllTextKind::NormalizeWhitespace => FilterRow::new(
                 "normalize_whitespace",
-                "With one space for each run of white space.",
+                "Replaces each run of whitespace by a space.",
                 &NONE,
             ),
             JekyllTextKind::NumberOfWords => {
-                FilterRow::new("number_of_words", "How many words there are.", &MODE)
+                FilterRow::new("number_of_words", "Counts the words.", &MODE)
             }
             JekyllTextKind::Slugify => {
-                FilterRow::new("slugify", "The text as a part of a URL.", &MODE)
+                FilterRow::new("slugify", "Converts to a part of a URL.", &MODE)
             }
             JekyllTextKind::StripIndex => FilterRow::new(
                 "strip_index",
-                "The path without the name of an index page.",
+                "Removes the name of an index page from a path.",
                 &NONE,
             ),
             JekyllTextKind::ToInteger => {
-                FilterRow::new("to_integer", "The input as a whole number.", &NONE)
+                FilterRow::new("to_integer", "Converts the input to an integer.", &NONE)
             }
             JekyllTextKind::UriEscape => {
-                FilterRow::new("uri_escape", "The text as a URL.", &NONE)
+                FilterRow::new("uri_escape", "Escapes for a URL.", &NONE)
             }
-            JekyllTextKind::XmlEscape => FilterRow::new("xml_escape", "The text for XML.", &NONE),
+            JekyllTextKind::XmlEscape => FilterRow::new(
+                "xml_escape",
+                "Escapes the special characters of XML.",
+                &NONE,
+            ),
         }
     }
 

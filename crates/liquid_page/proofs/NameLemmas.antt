@@ -1,5 +1,27 @@
 -- Words, one after another.
-use Rattle.std.proofs.Common.{◌≡◌, ◌∙◌, ◌∷◌, ◌++◌, ℕ, List, [], Bool, true, Option, Some, None, Result, Ok, Err, IfOk, OnOk, subst, sym, ap, append_assoc}
+use Rattle.std.proofs.Common.{
+  ◌≡◌,
+  ◌∙◌,
+  ◌∷◌,
+  ◌++◌,
+  ℕ,
+  List,
+  [],
+  Bool,
+  true,
+  Option,
+  Some,
+  None,
+  Result,
+  Ok,
+  Err,
+  IfOk,
+  OnOk,
+  subst,
+  sym,
+  ap,
+  append_assoc,
+}
 use Rattle.std.specs.Prelude.{flat_map}
 use Rattle.std.specs.Option.{unwrap_or}
 use Rattle.liquid_value.specs.meaning.Tree.{Members}

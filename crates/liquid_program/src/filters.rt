@@ -34,13 +34,13 @@ impl FilterKind for PlainKind {
         match self {
             PlainKind::Append => FilterRow {
                 name: "append",
-                description: "The text with another one after it.",
+                description: "Appends a string.",
                 parameters: &TEXT,
                 keywords: &NONE,
             },
             PlainKind::Fail => FilterRow {
                 name: "fail",
-                description: "An error for any input.",
+                description: "Fails for any input.",
                 parameters: &NONE,
                 keywords: &NONE,
             },

@@ -13,7 +13,14 @@ use Rattle.liquid_std.specs.declared.iteration.options.LoopBlock.{LoopBlock}
 use Rattle.liquid_std.specs.declared.iteration.options.LoopOption.{LoopOption}
 use Rattle.liquid_std.specs.declared.iteration.options.LoopOption.TheVariants.{Offset, Limit, Reversed, Cols}
 use Rattle.liquid_std.specs.declared.iteration.options.OptionsShape.{OptionsShape}
-use Rattle.liquid_std.specs.meaning.iteration.OptionsGiven.{expect_argument, from_argument, from_colon, option_named, options_from, with_option}
+use Rattle.liquid_std.specs.meaning.iteration.OptionsGiven.{
+  expect_argument,
+  from_argument,
+  from_colon,
+  option_named,
+  options_from,
+  with_option,
+}
 use Rattle.liquid_std.specs.steps.iteration.Reading.{argument_given, option_given}
 
 abbrev tokens : Token → List Token → Tokens

@@ -1,5 +1,35 @@
 -- What is taken out of picked items, and what is left.
-use Rattle.std.proofs.Common.{◌≡◌, ℕ, zero, suc, ℤ, ◌+◌, ◌-◌, ◌<◌, ◌≤◌, ◌+ℤ◌, List, [], ◌∷◌, ◌++◌, Bool, true, false, Option, None, Some, length, drop, refl, sym, ap, ◌∙◌, subst, add-one, arith}
+use Rattle.std.proofs.Common.{
+  ◌≡◌,
+  ℕ,
+  zero,
+  suc,
+  ℤ,
+  ◌+◌,
+  ◌-◌,
+  ◌<◌,
+  ◌≤◌,
+  ◌+ℤ◌,
+  List,
+  [],
+  ◌∷◌,
+  ◌++◌,
+  Bool,
+  true,
+  false,
+  Option,
+  None,
+  Some,
+  length,
+  drop,
+  refl,
+  sym,
+  ap,
+  ◌∙◌,
+  subst,
+  add-one,
+  arith,
+}
 use Rattle.std.specs.Prelude.{slice_get, take, reverse, min}
 use Rattle.std.proofs.lemmas.List.{length-reverse, reverse-append, length-drop, length-take, take_min, drop-append-le}
 use Rattle.std.proofs.Math.Seq.{take-length}

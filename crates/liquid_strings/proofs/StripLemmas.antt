@@ -1,12 +1,52 @@
 -- No tag is left in a text whose tags were left out.
-use Rattle.std.proofs.Common.{◌≡◌, ◌≢◌, ℕ, zero, suc, ◌+◌, ◌-◌, ◌<◌, Bool, true, false, cond, List, [], ◌∷◌, ◌++◌, length, drop, get_or, refl, ap, subst, ◌∙◌, arith, eqb, Option, Some, None, option_map}
+use Rattle.std.proofs.Common.{
+  ◌≡◌,
+  ◌≢◌,
+  ℕ,
+  zero,
+  suc,
+  ◌+◌,
+  ◌-◌,
+  ◌<◌,
+  Bool,
+  true,
+  false,
+  cond,
+  List,
+  [],
+  ◌∷◌,
+  ◌++◌,
+  length,
+  drop,
+  get_or,
+  refl,
+  ap,
+  subst,
+  ◌∙◌,
+  arith,
+  eqb,
+  Option,
+  Some,
+  None,
+  option_map,
+}
 use Rattle.std.specs.List.{All}
 use Rattle.std.proofs.lemmas.Bool.Decides.{nat_tests}
 use Rattle.std.proofs.lemmas.List.Elements.{All-nil, All-cons, All-head, All-tail, All-append}
 use Rattle.std.proofs.Math.Seq.{drop-cons, drop-length}
 use Rattle.memchr.specs.Find.{first_of, matches, matches_from}
 use Rattle.liquid_strings.specs.laws.Stripped.{HasNoTag}
-use Rattle.liquid_strings.specs.meaning.Tags.{byte_kept, first_part, first_some, stripped, tags, then_passed, without, without_after, blocks}
+use Rattle.liquid_strings.specs.meaning.Tags.{
+  byte_kept,
+  first_part,
+  first_some,
+  stripped,
+  tags,
+  then_passed,
+  without,
+  without_after,
+  blocks,
+}
 use Rattle.liquid_strings.proofs.UrlLemmas.{occurs_one}
 
 -- a byte that has no first place is nowhere

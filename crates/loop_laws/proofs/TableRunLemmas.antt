@@ -1,5 +1,31 @@
 -- The turns of a `tablerow` are the texts between its cells and the bodies of its items.
-use Rattle.std.proofs.Common.{◌≡◌, ℕ, zero, suc, ◌+◌, ℤ, pos, List, [], ◌∷◌, length, Bool, true, false, cond, Option, None, Some, Result, Ok, refl, ap, ◌∙◌, add-one, arith}
+use Rattle.std.proofs.Common.{
+  ◌≡◌,
+  ℕ,
+  zero,
+  suc,
+  ◌+◌,
+  ℤ,
+  pos,
+  List,
+  [],
+  ◌∷◌,
+  length,
+  Bool,
+  true,
+  false,
+  cond,
+  Option,
+  None,
+  Some,
+  Result,
+  Ok,
+  refl,
+  ap,
+  ◌∙◌,
+  add-one,
+  arith,
+}
 use Rattle.std.specs.Prelude.{not, ◌&&◌, nat_lt, unwrap_or}
 use Rattle.std.proofs.lemmas.Bool.{le-ltb, lt-ltb}
 use Rattle.liquid_error.specs.meaning.Refusal.{Refusal, ok_then}

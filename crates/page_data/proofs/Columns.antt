@@ -1,5 +1,27 @@
 -- The fields of a row, one after the other.
-use Rattle.std.proofs.Common.{◌≡◌, ◌<◌, ◌+◌, ℕ, zero, suc, List, [], ◌∷◌, Option, Some, None, length, drop, map, refl, sym, ap, ◌∙◌, arith, add-one}
+use Rattle.std.proofs.Common.{
+  ◌≡◌,
+  ◌<◌,
+  ◌+◌,
+  ℕ,
+  zero,
+  suc,
+  List,
+  [],
+  ◌∷◌,
+  Option,
+  Some,
+  None,
+  length,
+  drop,
+  map,
+  refl,
+  sym,
+  ap,
+  ◌∙◌,
+  arith,
+  add-one,
+}
 use Rattle.csv.specs.Records.{Row, field_at, fields_of}
 use Rattle.liquid_value.specs.meaning.Tree.{Members}
 use Rattle.page_data.specs.meaning.Sheet.{put_field, row_members, row_tree}

@@ -1,5 +1,34 @@
 -- Paths of names, and a member that is put twice.
-use Rattle.std.proofs.Common.{◌≡◌, ℕ, List, [], ◌∷◌, Ordering, Less, Equal, Greater, Option, Some, None, Result, Err, String, Global, cond, nat_cmp, string_bytes, is_eq, length, ◌≢◌, refl, sym, ap, ◌∙◌, rules, arith}
+use Rattle.std.proofs.Common.{
+  ◌≡◌,
+  ℕ,
+  List,
+  [],
+  ◌∷◌,
+  Ordering,
+  Less,
+  Equal,
+  Greater,
+  Option,
+  Some,
+  None,
+  Result,
+  Err,
+  String,
+  Global,
+  cond,
+  nat_cmp,
+  string_bytes,
+  is_eq,
+  length,
+  ◌≢◌,
+  refl,
+  sym,
+  ap,
+  ◌∙◌,
+  rules,
+  arith,
+}
 use Rattle.std.specs.Prelude.{IfOk, IfErr, option_map, option_and_then, ◌==◌, if◌then◌else◌}
 use Rattle.std.proofs.lemmas.Cmp.{nat_list_cmp_total}
 use Rattle.std.specs.BTreeMap.{is_at}

@@ -1,5 +1,30 @@
 -- Layouts around a page, one after another.
-use Rattle.std.proofs.Common.{◌≡◌, ◌∙◌, ℕ, List, [], ◌∷◌, ◌++◌, Option, None, Some, Result, Ok, Err, String, Global, IfOk, IfErr, IfSome, string_bytes, subst, sym, refl, inl, inr}
+use Rattle.std.proofs.Common.{
+  ◌≡◌,
+  ◌∙◌,
+  ℕ,
+  List,
+  [],
+  ◌∷◌,
+  ◌++◌,
+  Option,
+  None,
+  Some,
+  Result,
+  Ok,
+  Err,
+  String,
+  Global,
+  IfOk,
+  IfErr,
+  IfSome,
+  string_bytes,
+  subst,
+  sym,
+  refl,
+  inl,
+  inr,
+}
 use Rattle.liquid_value.specs.meaning.Tree.{Members}
 use Rattle.page_site.specs.declared.fault.PageFault.{PageFault}
 use Rattle.page_site.specs.meaning.Answers.{Answers, StaysWithin}

@@ -1,5 +1,27 @@
 -- Times of day and offsets in texts.
-use Rattle.std.specs.Prelude.{ℕ, ◌+◌, ◌*◌, ◌||◌, ◌==◌, Bool, if◌then◌else◌, ℤ, pos, neg_ℤ, List, [], ◌∷◌, map, codes, length, drop, take, Option, Some, None}
+use Rattle.std.specs.Prelude.{
+  ℕ,
+  ◌+◌,
+  ◌*◌,
+  ◌||◌,
+  ◌==◌,
+  Bool,
+  if◌then◌else◌,
+  ℤ,
+  pos,
+  neg_ℤ,
+  List,
+  [],
+  ◌∷◌,
+  map,
+  codes,
+  length,
+  drop,
+  take,
+  Option,
+  Some,
+  None,
+}
 use Rattle.std.specs.Char.{to_ascii_lowercase}
 use Rattle.std.specs.List.{take_while}
 use Rattle.std.specs.Str.{byte, bytes_eq}

@@ -1,5 +1,25 @@
 -- The names in tags.
-use Rattle.std.specs.Prelude.{ℕ, zero, suc, ◌+◌, Bool, drop, true, false, not, List, [], ◌∷◌, ◌++◌, Option, Some, None, codes, is_some, length}
+use Rattle.std.specs.Prelude.{
+  ℕ,
+  zero,
+  suc,
+  ◌+◌,
+  Bool,
+  drop,
+  true,
+  false,
+  not,
+  List,
+  [],
+  ◌∷◌,
+  ◌++◌,
+  Option,
+  Some,
+  None,
+  codes,
+  is_some,
+  length,
+}
 use Rattle.std.specs.Prelude.{nat_eq, option_and_then, option_map, unwrap_or, if◌then◌else◌}
 use Rattle.std.specs.List.{starts_with}
 use Rattle.std.specs.Option.{option_map_or}

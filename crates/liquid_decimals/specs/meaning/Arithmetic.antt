@@ -1,5 +1,24 @@
 -- Sums, differences, products, remainders and the order of decimals.
-use Rattle.std.specs.Prelude.{ℕ, ℤ, pos, negsuc, suc, neg_ℤ, ◌+◌, ◌-◌, ◌+ℤ◌, ◌-ℤ◌, ◌*ℤ◌, ◌^◌, max, Option, None, unsigned_abs, ◌==◌, if◌then◌else◌}
+use Rattle.std.specs.Prelude.{
+  ℕ,
+  ℤ,
+  pos,
+  negsuc,
+  suc,
+  neg_ℤ,
+  ◌+◌,
+  ◌-◌,
+  ◌+ℤ◌,
+  ◌-ℤ◌,
+  ◌*ℤ◌,
+  ◌^◌,
+  max,
+  Option,
+  None,
+  unsigned_abs,
+  ◌==◌,
+  if◌then◌else◌,
+}
 use Rattle.std.specs.Int.{int_div_euclid}
 use Rattle.std.specs.Ordering.{int_cmp}
 use Rattle.std.specs.declared.cmp.Ordering.{Ordering}

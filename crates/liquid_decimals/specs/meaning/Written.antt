@@ -1,5 +1,25 @@
 -- The texts of decimals.
-use Rattle.std.specs.Prelude.{ℕ, zero, suc, ◌+◌, ◌/◌, ◌%◌, ◌^◌, List, [], ◌∷◌, ◌++◌, ◌==◌, ◌&&◌, nat_lt, codes, decimal, length, unsigned_abs, if◌then◌else◌}
+use Rattle.std.specs.Prelude.{
+  ℕ,
+  zero,
+  suc,
+  ◌+◌,
+  ◌/◌,
+  ◌%◌,
+  ◌^◌,
+  List,
+  [],
+  ◌∷◌,
+  ◌++◌,
+  ◌==◌,
+  ◌&&◌,
+  nat_lt,
+  codes,
+  decimal,
+  length,
+  unsigned_abs,
+  if◌then◌else◌,
+}
 use Rattle.std.specs.Int.{is_negative}
 use Rattle.liquid_decimals.specs.meaning.Dec.{Dec}
 

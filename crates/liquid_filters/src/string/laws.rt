@@ -1,7 +1,8 @@
 //! Laws of the filters on texts. Each function only states its law.
 ghost use Rattle.std.specs.Prelude.{◌≡◌, Ok};
 ghost use Rattle.liquid_filters.specs.laws.string.Words.{FirstWordsAreKept};
-ghost use Rattle.liquid_filters.specs.meaning.string.Encoding.{base64_decoded, base64_encoded, base64_url_safe_decoded, base64_url_safe_encoded};
+ghost use Rattle.liquid_filters.specs.meaning.string.Encoding.{base64_decoded, base64_encoded};
+ghost use Rattle.liquid_filters.specs.meaning.string.Encoding.{base64_url_safe_decoded, base64_url_safe_encoded};
 ghost use Rattle.liquid_filters.specs.meaning.string.Written.{written};
 
 /// The base64 of a text decodes to the text.

@@ -4,7 +4,8 @@ ghost use Rattle.liquid_error.specs.meaning.Told.{Gives};
 ghost use Rattle.liquid_value.specs.meaning.Cow.{cow_view};
 ghost use Rattle.liquid_value.specs.meaning.Tree.{array};
 ghost use Rattle.liquid_value.specs.meaning.View.{view as tree_of, items_view};
-ghost use Rattle.liquid_filters.specs.meaning.string.Truncation.{slice, slice_length, sliced, sliced_items, truncate, truncated, truncated_to};
+ghost use Rattle.liquid_filters.specs.meaning.string.Truncation.{slice, slice_length, sliced, sliced_items};
+ghost use Rattle.liquid_filters.specs.meaning.string.Truncation.{truncate, truncated, truncated_to};
 ghost use Rattle.liquid_filters.specs.meaning.string.Truncation.{truncatewords, words_truncated, words_truncated_to};
 
 use crate::value::errors::unexpected_arguments_error;

@@ -2,7 +2,8 @@
 ghost use Rattle.std.specs.Prelude.{◌≡◌, IfSome};
 ghost use Rattle.liquid_error.specs.meaning.Told.{told};
 ghost use Rattle.liquid_value.specs.meaning.View.{view as tree_of};
-ghost use Rattle.liquid_filters.specs.meaning.value.Errors.{array_expected, decoded_no_text, digits_past_limit, divided_by_zero, found_error};
+ghost use Rattle.liquid_filters.specs.meaning.value.Errors.{array_expected, decoded_no_text, digits_past_limit};
+ghost use Rattle.liquid_filters.specs.meaning.value.Errors.{divided_by_zero, found_error};
 ghost use Rattle.liquid_filters.specs.meaning.value.Errors.{invalid_base64, object_expected, past_limit, unexpected_arguments};
 ghost use Rattle.liquid_filters.specs.meaning.value.Errors.{whole_number_expected, without_order};
 

@@ -1,6 +1,28 @@
 -- What Jekyll's filters on dates return.
 use Rattle.std.proofs.Common.{inl, inr}
-use Rattle.std.specs.Prelude.{◌⊎◌, ℕ, ◌%◌, Bool, true, false, not, ◌==◌, ◌&&◌, nat_le, List, [], ◌∷◌, ◌++◌, Option, Result, Ok, Err, codes, length, if◌then◌else◌}
+use Rattle.std.specs.Prelude.{
+  ◌⊎◌,
+  ℕ,
+  ◌%◌,
+  Bool,
+  true,
+  false,
+  not,
+  ◌==◌,
+  ◌&&◌,
+  nat_le,
+  List,
+  [],
+  ◌∷◌,
+  ◌++◌,
+  Option,
+  Result,
+  Ok,
+  Err,
+  codes,
+  length,
+  if◌then◌else◌,
+}
 use Rattle.std.specs.Str.{bytes_eq}
 use Rattle.liquid_dates.specs.declared.date_time.DateTime.{DateTime}
 use Rattle.liquid_dates.specs.meaning.Instant.{civil_date}

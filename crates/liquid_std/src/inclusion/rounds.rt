@@ -8,7 +8,8 @@ ghost use Rattle.liquid_runtime.specs.meaning.Maps.{names_of};
 ghost use Rattle.liquid_plugins.specs.meaning.TurnOf.{turn_of};
 ghost use Rattle.liquid_tags.specs.meaning.Partials.{pair_of};
 ghost use Rattle.liquid_std.specs.meaning.inclusion.Calls.{call_of};
-ghost use Rattle.liquid_std.specs.meaning.inclusion.Rounds.{call_rounds, following, frame_for, given_in, given_of, key_in, key_of, loop_names};
+ghost use Rattle.liquid_std.specs.meaning.inclusion.Rounds.{call_rounds, following, frame_for, given_in};
+ghost use Rattle.liquid_std.specs.meaning.inclusion.Rounds.{given_of, key_in, key_of, loop_names};
 ghost use Rattle.liquid_std.specs.meaning.inclusion.Rounds.{has_name, names_at, partial_for, rounds_of, turn_at, with_given, with_item};
 
 use crate::inclusion::calls::PartialCall;

@@ -4,7 +4,8 @@ ghost use Rattle.liquid_scalar.specs.meaning.Scalar.{boolean, integer};
 ghost use Rattle.liquid_value.specs.meaning.Members.{put_member};
 ghost use Rattle.liquid_value.specs.meaning.Tree.{scalar};
 ghost use Rattle.liquid_value.specs.meaning.View.{view as tree_of, members_view};
-ghost use Rattle.liquid_std.specs.meaning.iteration.Cells.{begins, cell_members, column_at, next_cell, next_row, opens_cell, row_at, tablerowloop};
+ghost use Rattle.liquid_std.specs.meaning.iteration.Cells.{begins, cell_members, column_at, next_cell};
+ghost use Rattle.liquid_std.specs.meaning.iteration.Cells.{next_row, opens_cell, row_at, tablerowloop};
 ghost use Rattle.liquid_std.specs.meaning.iteration.Cells.{text_between};
 
 use liquid_core::runtime::Counts;

@@ -9,7 +9,8 @@ ghost use Rattle.liquid_tags.specs.meaning.Asked.{next_as};
 ghost use Rattle.liquid_tags.specs.meaning.CallsGiven.{comma};
 ghost use Rattle.liquid_std.specs.meaning.iteration.Loops.{loop_of};
 ghost use Rattle.liquid_std.specs.meaning.iteration.Options.{options_of};
-ghost use Rattle.liquid_std.specs.meaning.iteration.OptionsGiven.{expect_argument, loop_given, no_options, option_named, options_from, range_named};
+ghost use Rattle.liquid_std.specs.meaning.iteration.OptionsGiven.{expect_argument, loop_given, no_options};
+ghost use Rattle.liquid_std.specs.meaning.iteration.OptionsGiven.{option_named, options_from, range_named};
 ghost use Rattle.liquid_std.specs.steps.iteration.Reading.{argument_given, option_given};
 
 use crate::iteration::loops::Loop;

@@ -1,5 +1,23 @@
 -- What the filters that calculate return.
-use Rattle.std.specs.Prelude.{ℤ, int_lt, pos, ◌+ℤ◌, ◌-ℤ◌, ◌*ℤ◌, unsigned_abs, List, [], ◌∷◌, ◌&&◌, cond, Option, Result, Ok, Err, if◌then◌else◌}
+use Rattle.std.specs.Prelude.{
+  ℤ,
+  int_lt,
+  pos,
+  ◌+ℤ◌,
+  ◌-ℤ◌,
+  ◌*ℤ◌,
+  unsigned_abs,
+  List,
+  [],
+  ◌∷◌,
+  ◌&&◌,
+  cond,
+  Option,
+  Result,
+  Ok,
+  Err,
+  if◌then◌else◌,
+}
 use Rattle.std.specs.Int.{int_max, int_min}
 use Rattle.std.specs.Ordering.{int_eq, is_lt}
 use Rattle.liquid_decimals.specs.meaning.Arithmetic as decimals

@@ -1,5 +1,24 @@
 -- What Jekyll's filter that puts items in the order of their keys returns.
-use Rattle.std.specs.Prelude.{ℕ, Bool, true, not, List, [], ◌∷◌, ◌++◌, Option, Some, None, Result, Ok, Err, codes, filter, map, if◌then◌else◌}
+use Rattle.std.specs.Prelude.{
+  ℕ,
+  Bool,
+  true,
+  not,
+  List,
+  [],
+  ◌∷◌,
+  ◌++◌,
+  Option,
+  Some,
+  None,
+  Result,
+  Ok,
+  Err,
+  codes,
+  filter,
+  map,
+  if◌then◌else◌,
+}
 use Rattle.std.specs.List.{list_all}
 use Rattle.std.specs.Str.{bytes_eq}
 use Rattle.liquid_error.specs.meaning.Refusal.{Refusal, ok_then}

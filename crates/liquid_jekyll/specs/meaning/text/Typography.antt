@@ -1,5 +1,24 @@
 -- Typography: quotes, dashes and other signs in place of how they are typed.
-use Rattle.std.specs.Prelude.{ℕ, ◌-◌, Bool, ◌==◌, ◌&&◌, ◌||◌, nat_lt, List, [], ◌∷◌, ◌++◌, Option, None, Some, chars, codes, encode_utf8_all, if◌then◌else◌}
+use Rattle.std.specs.Prelude.{
+  ℕ,
+  ◌-◌,
+  Bool,
+  ◌==◌,
+  ◌&&◌,
+  ◌||◌,
+  nat_lt,
+  List,
+  [],
+  ◌∷◌,
+  ◌++◌,
+  Option,
+  None,
+  Some,
+  chars,
+  codes,
+  encode_utf8_all,
+  if◌then◌else◌,
+}
 use Rattle.std.specs.List.{list_any}
 use Rattle.std.specs.Str.{byte}
 use Rattle.liquid_jekyll.specs.declared.text.quotes.Mark.{Mark}

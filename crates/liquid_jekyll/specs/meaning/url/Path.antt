@@ -1,5 +1,25 @@
 -- Paths of URLs in their normal form.
-use Rattle.std.specs.Prelude.{ℕ, ◌-◌, Bool, false, ◌||◌, List, [], ◌∷◌, ◌++◌, Option, None, Some, codes, flat_map, fold, length, map, take, if◌then◌else◌}
+use Rattle.std.specs.Prelude.{
+  ℕ,
+  ◌-◌,
+  Bool,
+  false,
+  ◌||◌,
+  List,
+  [],
+  ◌∷◌,
+  ◌++◌,
+  Option,
+  None,
+  Some,
+  codes,
+  flat_map,
+  fold,
+  length,
+  map,
+  take,
+  if◌then◌else◌,
+}
 use Rattle.std.specs.List.{join_by, slice_get}
 use Rattle.std.specs.Str.{bytes_eq}
 use Rattle.liquid_strings.specs.meaning.Pieces.{pieces}

@@ -1,5 +1,23 @@
 -- The rounds of a call: one for each item that it passes.
-use Rattle.std.specs.Prelude.{ℕ, ◌+◌, List, [], ◌∷◌, ◌++◌, codes, Bool, true, false, cond, length, map, slice_get, string_bytes, String, unwrap_or}
+use Rattle.std.specs.Prelude.{
+  ℕ,
+  ◌+◌,
+  List,
+  [],
+  ◌∷◌,
+  ◌++◌,
+  codes,
+  Bool,
+  true,
+  false,
+  cond,
+  length,
+  map,
+  slice_get,
+  string_bytes,
+  String,
+  unwrap_or,
+}
 use Rattle.std.specs.Prelude.{Option, None, Some, Result, Ok}
 use Rattle.std.specs.FinMap.{empty, insert}
 use Rattle.std.specs.Path.{path_file_name}

@@ -8,7 +8,17 @@ use Rattle.liquid_template.proofs.Shapes.{node_tag, node_block}
 use Rattle.liquid_template.proofs.Renderings.{stands, stands_not, left_more, left_none, none_yet, start_goes_at, node_puts, node_chains}
 use Rattle.liquid_template.proofs.Renderings.{node_tags, node_blocks, part_renders, no_part_renders}
 use Rattle.liquid_template.proofs.Framing.{owed_open, framed_kept}
-use Rattle.liquid_template.proofs.Goings.{renders_ok, says_same, done_ok, start_none, takes_more, takes_ok, takes_last, turns_over, node_fails}
+use Rattle.liquid_template.proofs.Goings.{
+  renders_ok,
+  says_same,
+  done_ok,
+  start_none,
+  takes_more,
+  takes_ok,
+  takes_last,
+  turns_over,
+  node_fails,
+}
 use Rattle.liquid_template.proofs.Goings.{node_stops, node_goes, nodes_over, opens_kept, opens_taken, captured_taken, true_not_false}
 use Rattle.liquid_template.proofs.Capturing.{text_stays, closed_aside, closed_around, text_caught, nothing_open, nothing_aside}
 use Rattle.liquid_template.proofs.Keeping.{keeps_all, keeps_store, keeps_both, keeps_ended, keeps_asked, keeps_unless, tags_open_none}

@@ -2,7 +2,10 @@ use Rattle.std.proofs.Common.{arith, sym, ◌∙◌}
 use Rattle.std.proofs.lemmas.Str.{IsUtf8-past_char}
 use Rattle.liquid_jekyll.proofs.RunLemmas.{chars_fit, count_new, count_old, count_none, fewer_chars}
 use Rattle.liquid_jekyll.proofs.text.runs.run_count.Goals as goal
-use Rattle.liquid_jekyll.proofs.text.runs.run_count.Goals.{else-contained-via-then-contained+else-not-in_run, else-contained-via-else-contained}
+use Rattle.liquid_jekyll.proofs.text.runs.run_count.Goals.{
+  else-contained-via-then-contained+else-not-in_run,
+  else-contained-via-else-contained,
+}
 
 pub loop-character-init : goal.loop-character-init
 loop-character-init c = rw (c.into_iter-character-iterator.ensures.into_iter_gives, c.chars-character-items.ensures.rest) (record {
