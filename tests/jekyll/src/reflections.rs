@@ -1,12 +1,11 @@
 //! What Jekyll's filters, tags and blocks say about themselves.
+use descriptions::{block_holds, filter_holds, tag_holds};
 use jekyll_expressions::filters;
 use jekyll_tags::{JekyllBlocks, JekyllLinks, JekyllTags};
-use liquid_core::parser::{BlockReflection, FilterReflection, ParameterReflection, TagReflection};
 use rows::{Line, holds};
-use std::alloc::{AllocError, Global};
 use std::test::Fail;
 
-/// The name of each filter, what it returns, its parameters by place and those by keyword, as FILTERS has them.
+/// The name of each filter, what it does, its parameters by position and those by keyword.
 const FILTERS: &str = r#"["absolute_url", "The text as a URL of the site.", "", ""]
 ["array_to_sentence_string", "Lists the items as in a sentence.", "connector (optional): The word before the last item, or `and`.", ""]
 ["cgi_escape", "Encodes for a URL.", "", ""]
@@ -56,55 +55,6 @@ const LINKS: &str = r#"["link", "Writes the URL of a file of the site."]
 /// The start and the end of the block, and its description.
 const BLOCK: &str = r#"["highlight", "endhighlight", "Writes its part as code."]"#;
 
-/// Adds a parameter to a list, with its name, whether it may be left out, and its description.
-fn list(all: &mut String, parameter: &ParameterReflection) -> Result<(), AllocError> {
-    if !all.is_empty() {
-        all.push_str("; ")?;
-    }
-    all.push_str(parameter.name)?;
-    all.push_str(if parameter.is_optional {
-        " (optional): "
-    } else {
-        " (needed): "
-    })?;
-    all.push_str(parameter.description)
-}
-
-/// Returns `true` if a text lists these parameters, with `; ` between them.
-fn are_listed(alloc: Global, parameters: &[ParameterReflection], text: Option<&str>) -> bool {
-    let mut all = String::new(alloc);
-    for parameter in parameters {
-        if list(&mut all, parameter).is_err() {
-            return false;
-        }
-    }
-    text == Some(all.as_str())
-}
-
-/// Returns `true` if a filter is as a row says.
-fn filter_holds<P: FilterReflection>(alloc: Global, filter: &P, row: &Line) -> bool {
-    row.text(0) == Some(filter.name())
-        && row.text(1) == Some(filter.description())
-        && are_listed(alloc, filter.positional_parameters(), row.text(2))
-        && are_listed(alloc, filter.keyword_parameters(), row.text(3))
-}
-
-/// Returns `true` if a row says what a tag says about itself.
-fn tag_holds<T: TagReflection>(alloc: Global, tag: &T, line: &str) -> bool {
-    Line::of(alloc, line).is_some_and(|row| {
-        row.text(0) == Some(tag.tag()) && row.text(1) == Some(tag.description())
-    })
-}
-
-/// Returns `true` if a row says what a block says about itself.
-fn block_holds<B: BlockReflection>(alloc: Global, block: &B, line: &str) -> bool {
-    Line::of(alloc, line).is_some_and(|row| {
-        row.text(0) == Some(block.start_tag())
-            && row.text(1) == Some(block.end_tag())
-            && row.text(2) == Some(block.description())
-    })
-}
-
 #[test]
 fn filters_describe_themselves(rt: HostRuntime) -> Result<(), Fail> {
     let alloc = rt.alloc();
@@ -113,7 +63,7 @@ fn filters_describe_themselves(rt: HostRuntime) -> Result<(), Fail> {
         let is_so = Line::of(alloc, line).is_some_and(|row| {
             filters
                 .get(row.text(0).unwrap_or(""))
-                .is_some_and(|filter| filter_holds(alloc, filter, &row))
+                .is_some_and(|filter| filter_holds(alloc, filter, line))
         });
         holds(is_so, line)?;
     }

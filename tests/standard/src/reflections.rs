@@ -1,15 +1,13 @@
 //! What the standard filters, tags and blocks say about themselves.
+use descriptions::{block_holds, filter_holds, tag_holds};
 use liquid_core::NoPlugin;
-use liquid_core::parser::{
-    BlockReflection, FilterReflection, ParameterReflection, PluginRegistry, TagReflection,
-};
+use liquid_core::parser::PluginRegistry;
 use liquid_filters::filters;
 use liquid_std::language;
-use rows::{Line, holds};
-use std::alloc::{AllocError, Global};
+use rows::holds;
 use std::test::Fail;
 
-/// The name of each filter, what it returns, its parameters by place and those by keyword, as FILTERS has them.
+/// The name of each filter, what it does, its parameters by position and those by keyword.
 const FILTERS: &str = r#"["abs", "The number without its sign.", "", ""]
 ["append", "Appends a string.", "text (needed): The other string.", ""]
 ["at_least", "Returns the greater of two numbers.", "number (needed): The other number.", ""]
@@ -98,62 +96,12 @@ const BLOCKS: &str = r#"["capture", "endcapture", "Assigns the text of its part 
 ["tablerow", "endtablerow", "Renders its body in a cell of a table for each item."]
 ["unless", "endunless", "Renders its first part if its condition does not hold, else as an if does."]"#;
 
-/// Adds a parameter to a list, with its name, whether it may be left out, and its description.
-fn list(all: &mut String, parameter: &ParameterReflection) -> Result<(), AllocError> {
-    if !all.is_empty() {
-        all.push_str("; ")?;
-    }
-    all.push_str(parameter.name)?;
-    all.push_str(if parameter.is_optional {
-        " (optional): "
-    } else {
-        " (needed): "
-    })?;
-    all.push_str(parameter.description)
-}
-
-/// Returns `true` if a text lists these parameters, with `; ` between them.
-fn are_listed(alloc: Global, parameters: &[ParameterReflection], text: Option<&str>) -> bool {
-    let mut all = String::new(alloc);
-    for parameter in parameters {
-        if list(&mut all, parameter).is_err() {
-            return false;
-        }
-    }
-    text == Some(all.as_str())
-}
-
-/// Returns `true` if a filter is as a row says.
-fn filter_holds<P: FilterReflection>(alloc: Global, filter: &P, row: &Line) -> bool {
-    row.text(0) == Some(filter.name())
-        && row.text(1) == Some(filter.description())
-        && are_listed(alloc, filter.positional_parameters(), row.text(2))
-        && are_listed(alloc, filter.keyword_parameters(), row.text(3))
-}
-
-/// Returns `true` if a tag is as a row says.
-fn tag_holds<T: TagReflection>(tag: &T, row: &Line) -> bool {
-    row.text(0) == Some(tag.tag()) && row.text(1) == Some(tag.description())
-}
-
-/// Returns `true` if a block is as a row says.
-fn block_holds<B: BlockReflection>(block: &B, row: &Line) -> bool {
-    row.text(0) == Some(block.start_tag())
-        && row.text(1) == Some(block.end_tag())
-        && row.text(2) == Some(block.description())
-}
-
-/// Returns `true` if a row says what a filter says about itself.
-fn is_filter<P: FilterReflection>(alloc: Global, filter: &P, line: &str) -> bool {
-    Line::of(alloc, line).is_some_and(|row| filter_holds(alloc, filter, &row))
-}
-
 #[test]
 fn filters_describe_themselves(rt: HostRuntime) -> Result<(), Fail> {
     let alloc = rt.alloc();
     let filters = filters(alloc, None)?;
     for (filter, line) in filters.plugins().zip(FILTERS.lines()) {
-        holds(is_filter(alloc, filter, line), line)?;
+        holds(filter_holds(alloc, filter, line), line)?;
     }
     holds(
         filters.plugins().len() == FILTERS.lines().count(),
@@ -167,16 +115,10 @@ fn tags_and_blocks_describe_themselves(rt: HostRuntime) -> Result<(), Fail> {
     let filters: PluginRegistry<NoPlugin> = PluginRegistry::new(alloc);
     let language = language(alloc, filters)?;
     for (tag, line) in language.tags.plugins().zip(TAGS.lines()) {
-        holds(
-            Line::of(alloc, line).is_some_and(|row| tag_holds(tag, &row)),
-            line,
-        )?;
+        holds(tag_holds(alloc, tag, line), line)?;
     }
     for (block, line) in language.blocks.plugins().zip(BLOCKS.lines()) {
-        holds(
-            Line::of(alloc, line).is_some_and(|row| block_holds(block, &row)),
-            line,
-        )?;
+        holds(block_holds(alloc, block, line), line)?;
     }
     holds(
         language.tags.plugins().len() == TAGS.lines().count(),
