@@ -1,4 +1,4 @@
--- A text writes the numbers of one date time, or of none.
+-- A string writes the numbers of one date time, or of none.
 use Rattle.std.proofs.Common.{◌≡◌, inl, inr, ℕ, List, refl, sym, ap, ◌∙◌, pos, Option, None, Some, Result, Ok, Err, subst, unwrap_or}
 use Rattle.std.specs.Prelude.{IfOk, IfSome, IfNone}
 use Rattle.liquid_dates.specs.declared.date_time.DateTime.{DateTime}
@@ -44,7 +44,7 @@ fields_once f a b h k =
       h.offset ∙ sym k.offset,
     )
 
--- two fields of one text are the same
+-- two fields of one string are the same
 one_value : (o : Option Fields) (f g : Fields) → o ≡ Some f → o ≡ Some g → f ≡ g
 one_value o f g h k = ap (λ v. unwrap_or v f) (sym h ∙ k)
 
@@ -64,7 +64,7 @@ pub moment_in_text_once : (bytes : List ℕ) (a b : DateTime) → IsMomentInText
 moment_in_text_once bytes a b h k =
     fields_once k.0 a b (subst (λ (g : Fields). HasFields g a) (one_value (fields_of bytes) h.0 k.0 h.1 k.1) h.2) k.2
 
--- the numbers that were read of a text are those of its date time
+-- the numbers that were read of a string are those of its date time
 pub fields_from : (bytes : List ℕ) (o : Option Fields) (f : Fields) (dt : DateTime) → o ≡ fields_of bytes → o ≡ Some f
     → IsMomentInText bytes dt → HasFields f dt
 fields_from bytes o f dt e g h = subst (λ (x : Fields). HasFields x dt) (one_value (fields_of bytes) h.0 f h.1 (sym e ∙ g)) h.2

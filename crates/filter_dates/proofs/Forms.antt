@@ -60,7 +60,7 @@ use Rattle.liquid_dates.proofs.TimedLemmas.{
 use Rattle.filter_dates.proofs.Deciding.{Decided, same_decided, first_decided}
 use Rattle.filter_dates.proofs.Parts.{IsOn, on_decided, IsAt, at_decided, of_parts}
 
--- a text has the form of a value that means this
+-- a string has the form of a value that means this
 abbrev Written : {V A : Type 0} → Form V → (V → A → Type 0) → List ℕ → A → Type 0
 Written {V = V} F Is text a = (v : V) × F text v × Is v a
 

@@ -41,7 +41,7 @@ use Rattle.filter_dates.proofs.Deciding.{Either, Decided, both, one_of, equal_te
 use Rattle.filter_dates.proofs.Forms.{date_decided, date_time_decided}
 use Rattle.filter_dates.proofs.Parts.{date_of, time_of, date_time_of, same_date_is, same_date_time_is}
 
--- the texts `now` and `today`
+-- the strings `now` and `today`
 is_now : (bytes : List ℕ) → Either (IsNow bytes)
 is_now bytes =
     one_of (equal_texts (map to_ascii_lowercase (trim bytes)) (codes "now"))
@@ -181,7 +181,7 @@ text_at_once bytes now a b (inl h) (inr (none, _)) = absurd (none a h)
 text_at_once bytes now a b (inr (none, _)) (inl k) = absurd (none b k)
 text_at_once bytes now a b (inr (_, h)) (inr (_, k)) = moment_in_text_once bytes a b h k
 
--- a text other than `now` and `today` means the same at each moment
+-- a string other than `now` and `today` means the same at each moment
 date_time_anywhen : (bytes : List ℕ) (now then dt : DateTime) → ¬ (IsNow bytes) → IsDateTimeText bytes now dt → IsDateTimeText bytes then dt
 date_time_anywhen bytes now then dt other (full, inl (word, _)) = absurd (other word)
 date_time_anywhen bytes now then dt other (full, inr h) = (full, inr h)

@@ -52,7 +52,7 @@ fn time_of(clock: &[u8], offset: &[u8]) -> Option<(Clock, i32)>
     Some((time, seconds))
 }
 
-/// Returns the number of bytes of the time of day with which a text begins.
+/// Returns the number of bytes of the time of day with which a string begins.
 fn clock_length(text: &[u8]) -> usize
     ensures value { result ≡ Spec.clock_length text.now }
     ensures within { result ≤ length text.now }

@@ -1,4 +1,4 @@
-//! The numbers of a date time that a text writes.
+//! The numbers of a date time that a string writes.
 ghost use Rattle.std.specs.Prelude.{IfSome, IfNone};
 ghost use Rattle.liquid_dates.specs.declared.date_time.DateTime.{DateTime};
 ghost use Rattle.filter_dates.specs.meaning.MomentText.{HasFields};

@@ -9,7 +9,7 @@ use crate::names::weekday_named;
 use liquid_strings::{replace, words};
 use std::alloc::{AllocError, Global};
 
-/// Returns the numbers of the date time that a text writes: perhaps a weekday, a date, and perhaps a time of day and an
+/// Returns the numbers of the date time that a string writes: perhaps a weekday, a date, and perhaps a time of day and an
 /// offset.
 pub(crate) fn fields_of(alloc: Global, text: &str) -> Result<Option<Fields>, AllocError>
     ensures { IfOk result (λ fields. fields ≡ Spec.fields_of text.now) }

@@ -18,7 +18,7 @@ use std::alloc::{AllocError, Global};
 
 /// Returns the date time that a value means, if there is one.
 ///
-/// A date time means itself, a date its midnight at offset 0, and a number that many seconds since 1970. A text means
+/// A date time means itself, a date its midnight at offset 0, and a number that many seconds since 1970. A string means
 /// the date time or the date that it writes, first as [`DateTime::from_str`] and [`Date::from_str`] read it, then in
 /// the other spellings of programs and people. `now` and `today` are the moment that is given, if one is.
 ///
@@ -74,7 +74,7 @@ fn moment_of_text(
     }
 }
 
-/// Returns the date time that a text means at each moment.
+/// Returns the date time that a string means at each moment.
 fn text_at_any_moment(alloc: Global, text: &str) -> Result<Option<DateTime>, AllocError>
     requires { ¬ (IsNow text.now) }
     ensures fits { IfOk result (λ o. IfSome o (λ dt. (now : DateTime) → IsTextAt now text.now dt)) }
@@ -95,7 +95,7 @@ fn epoch() -> Option<DateTime>
     }
 }
 
-/// Returns the date time that a text writes, otherwise midnight of the date that it writes, otherwise the date time of
+/// Returns the date time that a string writes, otherwise midnight of the date that it writes, otherwise the date time of
 /// another spelling.
 fn text_at(alloc: Global, text: &str, now: &DateTime) -> Result<Option<DateTime>, AllocError>
     ensures fits { IfOk result (λ o. IfSome o (λ dt. IsTextAt now.now text.now dt)) }
@@ -107,7 +107,7 @@ fn text_at(alloc: Global, text: &str, now: &DateTime) -> Result<Option<DateTime>
     }
 }
 
-/// Returns the date time that a text writes, otherwise midnight of the date that it writes.
+/// Returns the date time that a string writes, otherwise midnight of the date that it writes.
 fn plain_text_at(text: &str, now: &DateTime) -> Option<DateTime>
     ensures fits { IfSome result (λ dt. IsPlainTextAt now.now text.now dt) }
     ensures none { IfNone result ((dt : DateTime) → ¬ (IsPlainTextAt now.now text.now dt)) }
@@ -132,7 +132,7 @@ fn moment_in_text(alloc: Global, text: &str) -> Result<Option<DateTime>, AllocEr
     }
 }
 
-/// Returns `true` if a text is `now` or `today`, in any case and between whitespace.
+/// Returns `true` if a string is `now` or `today`, in any case and between whitespace.
 fn is_now(text: &str) -> bool
     ensures { IsTrue result ↔ IsNow text.now }
 {

@@ -1,4 +1,4 @@
--- A text that is one tag, and what it is read as.
+-- A string that is one tag, and what it is read as.
 use Rattle.std.proofs.Common.{◌≡◌, ℕ, List, [], ◌∷◌, Option, Some, None, Result, Ok, Err, refl, sym, ap, ◌∙◌, subst, append-nil}
 use Rattle.std.specs.Prelude.{codes, is_some, IfSome, T, ok_or}
 use Rattle.liquid_error.specs.declared.error.Error.{Error}

@@ -19,7 +19,7 @@ use liquid_value::Value;
 use liquid_value::render::ValueSource;
 use std::alloc::{AllocError, Global};
 
-/// Returns the text that an argument is. Any other argument than a text literal is an error.
+/// Returns the text that an argument is. Any other argument than a string literal is an error.
 pub(crate) fn text_literal<'e>(alloc: Global, argument: &'e Expression) -> Result<&'e str, Error>
     ensures { Gives (λ t. t.now) result (Spec.text_literal (expression_of argument.now)) }
 {
@@ -30,7 +30,7 @@ pub(crate) fn text_literal<'e>(alloc: Global, argument: &'e Expression) -> Resul
     }
 }
 
-/// Returns the error for a variable, which is shown as a text.
+/// Returns the error for a variable, which is shown as a string.
 fn variable_found(alloc: Global, argument: &Expression) -> Error
     ensures { IfSome (told result) (λ r. r ≡ Spec.variable_found (expression_of argument.now)) }
 {
@@ -40,7 +40,7 @@ fn variable_found(alloc: Global, argument: &Expression) -> Error
     }
 }
 
-/// Returns the condition that a text is, as the tag `if` would have it. A text that is none is an error.
+/// Returns the condition that a string is, as the tag `if` would have it. A string that is none is an error.
 pub(crate) fn read_text(alloc: Global, text: &str) -> Result<Condition, Error>
     ensures { Gives condition_of result (Spec.condition_read text.now) }
 {
@@ -50,7 +50,7 @@ pub(crate) fn read_text(alloc: Global, text: &str) -> Result<Condition, Error>
     }
 }
 
-/// Returns the condition that a text is, if it is one.
+/// Returns the condition that a string is, if it is one.
 fn condition_in(alloc: Global, text: &str) -> Result<Option<Condition>, AllocError>
     ensures { IfOk result (λ c. option_map condition_of c ≡ Spec.condition_in text.now) }
 {
@@ -88,7 +88,7 @@ fn if_read(read: Result<Condition, Error>) -> Result<Option<Condition>, AllocErr
     }
 }
 
-/// Returns the error for a text that is not a condition.
+/// Returns the error for a string that is not a condition.
 fn text_found(alloc: Global, text: String) -> Error
     ensures { IfSome (told result) (λ r. r ≡ Spec.text_found (string_bytes text)) }
 {

@@ -12,7 +12,7 @@ use liquid_jekyll::JekyllPlugin;
 use liquid_plugins::{FilterReflection, PluginRegistry};
 use std::alloc::{AllocError, Global};
 
-/// Returns the filters of `liquid_jekyll`, and those with a condition. The filters on dates read the texts `now` and `today`
+/// Returns the filters of `liquid_jekyll`, and those with a condition. The filters on dates read the strings `now` and `today`
 /// as the moment that is given. Without a moment they are not dates.
 pub fn filters(
     alloc: Global,

@@ -1,4 +1,4 @@
--- A text that grows by a digit a turn.
+-- A string that grows by a digit a turn.
 use Rattle.std.proofs.Common.{◌≡◌, ℕ, suc, ◌+◌, ◌-◌, ◌/◌, ◌%◌, ◌^◌, ◌<◌, List, [], ◌∷◌, ◌++◌, length, get_or, drop, refl, arith}
 use Rattle.std.proofs.lemmas.List.{append_assoc, length-drop, at_drop_more}
 use Rattle.liquid_decimals.specs.meaning.Written.{grouped, places, separator_before}

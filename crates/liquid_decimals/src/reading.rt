@@ -9,15 +9,15 @@ use crate::decimal::Decimal;
 use crate::parts::decimal_from;
 
 impl Decimal {
-    /// Returns the decimal that a text writes: a minus or none, digits, and, if there is a point, 1 to 18 digits after it.
-    /// Returns `None` for any other text, and if the digits without the point are no `i64`.
+    /// Returns the decimal that a string writes: a minus or none, digits, and, if there is a point, 1 to 18 digits after it.
+    /// Returns `None` for any other string, and if the digits without the point are no `i64`.
     pub fn from_text(text: &str) -> Option<Decimal>
         ensures { option_map dec result ≡ decimal_of_text text.now }
     {
         Decimal::from_bytes(text.as_bytes())
     }
 
-    /// Returns the decimal that the bytes of a text write, as [`Decimal::from_text`] does.
+    /// Returns the decimal that the bytes of a string write, as [`Decimal::from_text`] does.
     pub fn from_bytes(bytes: &[u8]) -> Option<Decimal>
         ensures { option_map dec result ≡ decimal_of_text bytes.now }
     {

@@ -1,4 +1,4 @@
--- The words of a text that is cut to a number of words.
+-- The words of a string that is cut to a number of words.
 use Rattle.std.proofs.Common.{
   ◌≡◌,
   ℕ,

@@ -10,7 +10,7 @@ use liquid_error::Error;
 use liquid_value::Value;
 use std::alloc::Global;
 
-/// The filter `date`, with the moment that the texts `now` and `today` mean, if there is one.
+/// The filter `date`, with the moment that the strings `now` and `today` mean, if there is one.
 #[derive(Clone, Copy, Drop)]
 pub struct DateKind {
     pub now: Option<DateTime>,

@@ -91,7 +91,7 @@ const TIMELESS_KINDS: [StdKind; 64] = [
     StdKind::Values(ValueKind::Size),
 ];
 
-/// Returns the standard filters. `date` reads the texts `now` and `today` as the moment that is given. Without a moment
+/// Returns the standard filters. `date` reads the strings `now` and `today` as the moment that is given. Without a moment
 /// they are not dates.
 pub fn filters(
     alloc: Global,

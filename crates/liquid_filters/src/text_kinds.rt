@@ -1,4 +1,4 @@
-//! The filters on texts.
+//! The filters on strings.
 ghost use Rattle.liquid_filters.specs.meaning.Standard.{text_sense};
 
 use crate::arguments::CallArguments;
@@ -14,7 +14,7 @@ use liquid_error::Error;
 use liquid_value::Value;
 use std::alloc::Global;
 
-/// A filter on texts.
+/// A filter on strings.
 #[derive(Debug, Clone, Copy, PartialEq, Eq, Drop)]
 pub enum TextKind {
     Append,

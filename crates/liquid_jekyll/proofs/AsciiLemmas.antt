@@ -6,7 +6,7 @@ use Rattle.std.specs.List.{flat_map}
 use Rattle.std.specs.Str.{chars, encode_utf8_all, IsUtf8}
 use Rattle.liquid_jekyll.specs.meaning.text.Latin.{ascii_of}
 
--- a text that is still to be written
+-- a string that is still to be written
 abbrev pub unwritten : List ℕ → List ℕ
 unwritten bs = encode_utf8_all (flat_map ascii_of (chars bs))
 

@@ -1,4 +1,4 @@
--- The first name of an index page in a text.
+-- The first name of an index page in a string.
 use Rattle.std.proofs.Common.{
   ◌≡◌,
   ℕ,
@@ -43,7 +43,7 @@ use Rattle.liquid_strings.proofs.PlaceLemmas.{cut_after, cut_before}
 use Rattle.liquid_strings.proofs.TagLemmas.{opens_at}
 use Rattle.liquid_jekyll.specs.meaning.text.Index.{ends_line, index_length, index_stripped}
 
--- a text by its first byte
+-- a string by its first byte
 step_none : (b : ℕ) (rest : List ℕ) → index_length (b ∷ rest) ≡ None → index_stripped (b ∷ rest) ≡ b ∷ index_stripped rest
 step_none b rest none = ap (λ o. option_map_or (λ n. 47 ∷ drop n (b ∷ rest)) o (b ∷ index_stripped rest)) none
 

@@ -60,7 +60,7 @@ pub count_end : (test : ℕ → Bool) (in_run : Bool) (count total : ℕ)
 count_end test true count total h = omega (arith, h)
 count_end test false count total h = omega (arith, h)
 
--- a text has at most as many characters as bytes
+-- a string has at most as many characters as bytes
 pub chars_fit : (bs : List ℕ) → IsUtf8 bs → length (chars bs) ≤ length bs
 chars_fit bs u = omega (arith, length-le-encodes (chars bs), ap length (encodes-chars bs u))
 
@@ -92,7 +92,7 @@ pub unwritten_step : (in_run : Bool) (by : ℕ) (test : ℕ → Bool) (c : ℕ) 
     → unwritten in_run by test (c ∷ cs) ≡ written_for (test c) in_run by c ++ unwritten (test c) by test cs
 unwritten_step in_run by test c cs = owed_cases (test c) in_run (begins test cs) by c (with_runs_as test by cs)
 
--- a text without its last character, if that is such a one
+-- a string without its last character, if that is such a one
 last_cases : (b : Bool) (c : ℕ) (xs ys : List ℕ) → c ∷ cond b xs ys ≡ cond b (c ∷ xs) (c ∷ ys)
 last_cases true c xs ys = refl
 last_cases false c xs ys = refl
@@ -118,7 +118,7 @@ pub keeps_last : (by : ℕ) (bs : List ℕ) → 0 < length bs → (get_or bs (le
 keeps_last by bs within other = without_last_at by bs within ∙ cond-false _ _ _ (ne_eqb _ _ other)
 
 module _ (bs rest : List ℕ) (c : ℕ) (u : IsUtf8 bs) (e : bs ≡ encode_utf8 c ++ rest) where
-  -- a text with a character at its start
+  -- a string with a character at its start
   pub count_next : (test : ℕ → Bool) (in_run : Bool) (count total : ℕ)
       → count + run_count test (chars bs) ≡ total + counted in_run test (chars bs)
       → (count + cond (test c && not in_run) 1 0) + run_count test (chars rest) ≡ total + counted (test c) test (chars rest)

@@ -9,7 +9,7 @@ use liquid_filters::{CallArguments, FilterKind, FilterRow};
 use liquid_value::Value;
 use std::alloc::Global;
 
-/// A filter that writes a date, with the moment that the texts `now` and `today` mean, if there is one.
+/// A filter that writes a date, with the moment that the strings `now` and `today` mean, if there is one.
 #[derive(Clone, Copy, Drop)]
 pub struct JekyllDateKind {
     pub form: DateForm,

@@ -42,7 +42,7 @@ pub(crate) enum DayStyle {
     American,
 }
 
-/// Writes the moment that the input means, in a form. Nil and the empty text are kept. Any other input that means no moment
+/// Writes the moment that the input means, in a form. Nil and the empty string are kept. Any other input that means no moment
 /// is an error.
 ///
 /// The arguments say how the day is written: `"ordinal"` as `22nd Dec 2020`, and with `"US"` after it as `Dec 22nd, 2020`.
@@ -110,7 +110,7 @@ fn write_moment(
     }
 }
 
-/// Returns `true` for nil and the empty text.
+/// Returns `true` for nil and the empty string.
 fn is_kept(input: &Value) -> bool
     ensures { result ≡ Spec.is_kept (tree_of input.now) }
 {

@@ -1,4 +1,4 @@
-//! Texts that a host has rendered for a filter, in the object `rendered`.
+//! Strings that a host has rendered for a filter, in the object `rendered`.
 ghost use Rattle.std.specs.Prelude.{◌≡◌, option_map, IfSome};
 ghost use Rattle.liquid_error.specs.meaning.Told.{Gives, told};
 ghost use Rattle.liquid_value.specs.meaning.View.{view as tree_of};
@@ -46,7 +46,7 @@ pub(crate) fn smart_text<R: Runtime>(
     }
 }
 
-/// Returns the entry of a text in the object that a filter's texts are in.
+/// Returns the entry of a string in the object that a filter's texts are in.
 fn entry<'v>(rendered: &'v Value, filter: &str, text: &str) -> Option<&'v Value>
     ensures { option_map (λ found. tree_of found.now) result ≡ Spec.entry filter.now text.now (tree_of rendered.now) }
 {
@@ -65,7 +65,7 @@ fn typographic(alloc: Global, text: &str) -> Result<Value, Error>
     }
 }
 
-/// Returns the error of a text that the host has not rendered.
+/// Returns the error of a string that the host has not rendered.
 fn no_rendered_text(alloc: Global, filter: &str, text: &str) -> Error
     ensures { IfSome (told result) (λ r. r ≡ Spec.no_rendered_text filter.now text.now) }
 {

@@ -26,7 +26,7 @@ const NAMED_KINDS: [NamedKind; 6] = [
     NamedKind::Scssify,
 ];
 
-/// Returns the standard filters and Jekyll's, which replace those of the same name. The filters on dates read the texts `now`
+/// Returns the standard filters and Jekyll's, which replace those of the same name. The filters on dates read the strings `now`
 /// and `today` as the moment that is given. Without a moment they are not dates.
 pub fn filters(
     alloc: Global,

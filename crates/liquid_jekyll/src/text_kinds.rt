@@ -1,4 +1,4 @@
-//! The kinds of Jekyll's filters on texts.
+//! The kinds of Jekyll's filters on strings.
 ghost use Rattle.liquid_jekyll.specs.meaning.Senses.{text_sense};
 
 use crate::inspection::inspect;
@@ -13,7 +13,7 @@ use liquid_filters::{CallArguments, FilterKind, FilterRow};
 use liquid_value::Value;
 use std::alloc::Global;
 
-/// A filter of Jekyll on a text.
+/// A filter of Jekyll on a string.
 #[derive(Debug, Clone, Copy, PartialEq, Eq, Drop)]
 pub enum JekyllTextKind {
     CgiEscape,

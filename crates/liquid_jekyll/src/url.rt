@@ -1,4 +1,4 @@
-//! Texts as URLs and as parts of URLs.
+//! Strings as URLs and as parts of URLs.
 mod authority;
 mod cuts;
 mod normal;

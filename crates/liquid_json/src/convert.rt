@@ -14,7 +14,7 @@ use serde_json::{Map, Value as Json};
 use std::alloc::Global;
 
 /// Returns the value of JSON: null is nil, and booleans, texts, arrays and objects are the values of their kind.
-/// Texts are copied.
+/// Strings are copied.
 ///
 /// An integer from 2^63 to 2^64 - 1 is the error "Cannot fit number", and a number that is kept as a float is
 /// "Fractional number". The first error is returned: items are converted in order, and members in the order of their
@@ -25,7 +25,7 @@ pub fn to_value(alloc: Global, json: &Json) -> Result<Value>
     into_value(alloc, json.clone()?)
 }
 
-/// Returns the object of an object's members, as `to_value` gives them. Texts are copied.
+/// Returns the object of an object's members, as `to_value` gives them. Strings are copied.
 ///
 /// The errors of members are those of `to_value`. An array is the error "Object cannot be an array.", and anything else
 /// is "Object cannot be a scalar.".

@@ -10,7 +10,7 @@ use liquid_scalar::Scalar;
 use serde_json::{Number, Value as Json};
 use std::alloc::Global;
 
-/// Returns the scalar of a boolean, a text or an integer. A text is copied.
+/// Returns the scalar of a boolean, a string or an integer. A string is copied.
 ///
 /// An integer from 2^63 to 2^64 - 1 is the error "Cannot fit number", and a number that is kept as a float is
 /// "Fractional number". Null, an array and an object are "Scalar must be a string.".

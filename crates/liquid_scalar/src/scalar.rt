@@ -1,4 +1,4 @@
-//! A scalar: an integer, a boolean, a text, a date or a date time.
+//! A scalar: an integer, a boolean, a string, a date or a date time.
 ghost use Rattle.std.specs.Prelude.{◌≡◌, IfOk};
 ghost use Rattle.std.specs.Cow.{cow_str_bytes};
 ghost use Rattle.liquid_scalar.specs.meaning.Scalar.{scal, to_integer, to_bool};
@@ -38,7 +38,7 @@ pub type Scalar = ScalarOf<String>;
 pub type ScalarCow<'s> = ScalarOf<CowStr<'s>>;
 
 impl<T> ScalarOf<T> {
-    /// Returns the scalar of a number, a boolean, a text, a date or a date time.
+    /// Returns the scalar of a number, a boolean, a string, a date or a date time.
     pub fn new<V: Into<ScalarOf<T>>>(value: V) -> ScalarOf<T>
         ensures { V.converts value result }
     {
@@ -60,7 +60,7 @@ impl<T: AsStr> ScalarOf<T> {
         }
     }
 
-    /// Returns the number itself, or the integer that a text writes: an optional sign and digits, from -2^63 to
+    /// Returns the number itself, or the integer that a string writes: an optional sign and digits, from -2^63 to
     /// 2^63 - 1. Returns `None` for every other scalar.
     pub fn to_integer(&self) -> Option<i64>
         ensures { result ≡ to_integer (scal T.text self.now) }

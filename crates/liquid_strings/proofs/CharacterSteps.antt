@@ -1,4 +1,4 @@
--- Texts by their characters.
+-- Strings by their characters.
 use Rattle.std.proofs.Common.{
   ◌≡◌,
   ℕ,
@@ -42,7 +42,7 @@ no_more m gap none =
     rw (sym none, second, third) refl
 
 module _ (bs rest : List ℕ) (c : ℕ) (u : IsUtf8 bs) (e : bs ≡ encode_utf8 c ++ rest) where
-  -- a text by its first character and the others
+  -- a string by its first character and the others
   pub lowercased_step : lowercased bs ≡ encode_utf8_all (to_lowercase c) ++ lowercased rest
   lowercased_step = ap (λ cs. encode_utf8_all (flat_map to_lowercase cs)) (chars_past_char bs rest c u e)
       ∙ encodes-append (to_lowercase c) (flat_map to_lowercase (chars rest))
@@ -54,7 +54,7 @@ module _ (bs rest : List ℕ) (c : ℕ) (u : IsUtf8 bs) (e : bs ≡ encode_utf8 
   pub encoded_step : map encode_utf8 (chars bs) ≡ encode_utf8 c ∷ map encode_utf8 (chars rest)
   encoded_step = ap (map encode_utf8) (chars_past_char bs rest c u e)
 
--- a text that is cut after its first character
+-- a string that is cut after its first character
 pub record CutsFirst (bs rest : List ℕ) (c n : ℕ) : Type 0 where
   pub cut : IsCharBoundary bs n
   pub front : take n bs ≡ encode_utf8 c

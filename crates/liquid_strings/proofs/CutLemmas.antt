@@ -1,4 +1,4 @@
--- A text cut at a character.
+-- A string cut at a character.
 use Rattle.std.proofs.Common.{
   ◌≡◌,
   ℕ,
@@ -45,7 +45,7 @@ use Rattle.liquid_strings.specs.meaning.Split.{words}
 use Rattle.liquid_strings.proofs.PieceLemmas.{join_by_view}
 use Rattle.liquid_strings.proofs.PlaceLemmas.{after_text}
 
--- the text is cut before what is left after that many characters
+-- the string is cut before what is left after that many characters
 pub record CutsAt (bs back : List ℕ) (n : ℕ) : Type 0 where
   pub fits : length back ≤ length bs
   pub cut : IsCharBoundary bs (length bs - length back)
@@ -75,7 +75,7 @@ nothing_later xs i j e le =
     let none : length (drop j xs) ≡ 0 = omega (arith, ap length e, length-drop i xs, length-drop j xs) in
     sym (nil_from_length (drop j xs) none)
 
--- a text that continues after its words up to a count
+-- a string that continues after its words up to a count
 pub cut_words : {X : Type 0} (f : X → List ℕ) (xs : List X) (n : ℕ) (ending text : List ℕ) → map f xs ≡ words text
     → true ≡ (ltb n (length xs) || (eqb (length xs) n && not (eqb (length (trim_end text)) (length text))))
     → join_by f (codes " ") (take n xs) ++ ending ≡ truncated_at n ending text

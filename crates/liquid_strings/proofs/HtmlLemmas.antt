@@ -38,7 +38,7 @@ use Rattle.liquid_strings.specs.meaning.Escape.{entity, escaped, escaped_byte, e
 pub entity_is_ascii : (b : ℕ) (e : List ℕ) → entity b ≡ Some e → b < 128
 entity_is_ascii b e is = grind (arith, nat_tests)
 
--- a text that is escaped up to a place, and up to the next
+-- a string that is escaped up to a place, and up to the next
 escaped_more : (bs : List ℕ) (at : ℕ) → at < length bs → escaped (take (at + 1) bs) ≡ escaped (take at bs) ++ escaped_byte (get_or bs at 0)
 escaped_more bs at within =
     ap escaped (take_more bs at 0 within) ∙ flat_map-append escaped_byte (take at bs) (get_or bs at 0 ∷ [])

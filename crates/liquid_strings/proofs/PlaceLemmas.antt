@@ -1,4 +1,4 @@
--- Places of a needle in a text, where the text may be cut.
+-- Places of a needle in a string, where the string may be cut.
 use Rattle.std.proofs.Common.{
   ◌≡◌,
   ℕ,
@@ -31,14 +31,14 @@ use Rattle.std.proofs.lemmas.Str.{IsUtf8-past_char, IsUtf8-drop, IsCharBoundary-
 use Rattle.memchr.specs.Find.{OccursAt, FindsNeedle, FindsLastNeedle, occurs_at, match_len, matches, matches_from}
 use Rattle.memchr.proofs.lemmas.MatchLemmas.{OccursAt-true, OccursAt-split, matches_from-skip}
 
--- what follows a text in a text is text
+-- what follows a string in a string is a string
 pub after_text : (cs ys : List ℕ) → IsUtf8 (encode_utf8_all cs ++ ys) → IsUtf8 ys
 after_text [] ys u = u
 after_text (c ∷ cs) ys u = after_text cs ys
     (IsUtf8-past_char _ (encode_utf8_all cs ++ ys) c u (append_assoc (encode_utf8 c) (encode_utf8_all cs) ys))
 
 module _ (hay needle : List ℕ) (u : IsUtf8 hay) (v : IsUtf8 needle) where
-  -- a needle that is not empty begins where the text may be cut
+  -- a needle that is not empty begins where the string may be cut
   pub cut_before : (at : ℕ) → 0 < length needle → OccursAt hay needle at → IsCharBoundary hay at
   cut_before at more occurs =
       let fits = occurs.fits in
@@ -58,7 +58,7 @@ module _ (hay needle : List ℕ) (u : IsUtf8 hay) (v : IsUtf8 needle) where
       IsCharBoundary-from_drop hay (at + length needle) (omega arith)
       (after_text v.0 rest (subst (λ n. IsUtf8 (n ++ rest)) (sym v.1.1) whole))
 
-  -- the first place and the last place of a needle, empty or not, are where the text may be cut
+  -- the first place and the last place of a needle, empty or not, are where the string may be cut
   pub cut_at_first : (at : ℕ) → FindsNeedle hay needle 0 (Some at) → IsCharBoundary hay at
   cut_at_first at found = ⊎_elim
       (λ none.

@@ -1,4 +1,4 @@
--- No tag is left in a text whose tags were left out.
+-- No tag is left in a string whose tags were left out.
 use Rattle.std.proofs.Common.{
   ◌≡◌,
   ◌≢◌,

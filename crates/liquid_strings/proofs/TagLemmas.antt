@@ -1,4 +1,4 @@
--- Parts of a text that are left out.
+-- Parts of a string that are left out.
 use Rattle.std.proofs.Common.{
   ◌≡◌,
   ℕ,
@@ -48,7 +48,7 @@ use Rattle.liquid_strings.specs.declared.tags.Kind.{Kind}
 use Rattle.liquid_strings.specs.steps.Kinds.{FitsText}
 use Rattle.liquid_strings.proofs.PlaceLemmas.{cut_after, cut_before}
 
--- a place in what follows another is a place in the text
+-- a place in what follows another is a place in the string
 later : (text needle : List ℕ) (body k : ℕ) → body ≤ length text → OccursAt (drop body text) needle k → OccursAt text needle (body + k)
 later text needle body k le occurs =
     let fits = occurs.fits in
@@ -106,7 +106,7 @@ module _ (text opener closer : List ℕ) (at : ℕ) (within : at ≤ length text
   none_from_end end last low fits = λ k a b occurs. omega
       (arith, last (at + length opener + k) (later text closer (at + length opener) k fits occurs))
 
-  -- where a part begins and ends the text may be cut
+  -- where a part begins and ends the string may be cut
   pub cuts_end : IsUtf8 text → IsUtf8 closer → 0 < length closer → at + length opener ≤ length text → (place : ℕ)
       → FindsNeedle (drop (at + length opener) text) closer 0 (Some place)
       → IsCharBoundary text (at + length opener + place + length closer)
@@ -123,7 +123,7 @@ pub shown_some : (f : ℕ → ℕ) (o : Option ℕ) (m : ℕ) → Some m ≡ opt
 shown_some f None m e = absurd (cc)
 shown_some f (Some n) m e = (n, refl, (cc))
 
--- one step over a text
+-- one step over a string
 module _ (ks : List (List ℕ × List ℕ)) (bs out whole : List ℕ) (kept at : ℕ) (within : at < length bs)
     (held : out ++ (slice_range bs kept at ++ without_after ks (kept - at) (drop at bs)) ≡ whole) where
   step : without_after ks 0 (drop at bs) ≡ byte_kept (first_part ks (drop at bs)) (get_or bs at 0)
@@ -196,7 +196,7 @@ module _ (ks : List (List ℕ × List ℕ)) (bs out whole : List ℕ) (kept at :
       (λ fails. absurd (cc (some ∙ cond-false _ _ _ fails)))
       (cases_Bool (leb kept at))
 
--- parts of a text whose opener and closer are known
+-- parts of a string whose opener and closer are known
 pub fits_text : (text opener closer : List ℕ) (kind : Kind) → kind.opener.now ≡ opener → kind.closer.now ≡ closer → 0 < length opener
     → 0 < length closer
     → ((place : ℕ) → OccursAt text closer place → place < kind.end) → FitsText text kind

@@ -1,4 +1,4 @@
--- A text that is written for a URL is read back.
+-- A string that is written for a URL is read back.
 use Rattle.std.proofs.Common.{
   ◌≡◌,
   ◌≢◌,

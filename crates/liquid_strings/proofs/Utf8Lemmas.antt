@@ -1,4 +1,4 @@
--- Bytes that are a text, or are not.
+-- Bytes that are a string, or are not.
 use Rattle.std.proofs.Common.{◌≡◌, ℕ, List, Some, None, String, sym, ap, ◌∙◌, ⊎_elim, subst}
 use Rattle.std.proofs.lemmas.Bool.{cond-true, cond-false, cases_Bool}
 use Rattle.std.proofs.lemmas.Str.{is_utf8-from_IsUtf8, IsUtf8-from_is_utf8, IsUtf8-string_bytes}

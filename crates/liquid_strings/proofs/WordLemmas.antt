@@ -1,4 +1,4 @@
--- Words and pieces of a text, one by one.
+-- Words and pieces of a string, one by one.
 use Rattle.std.proofs.Common.{
   ◌≡◌,
   ◌≢◌,

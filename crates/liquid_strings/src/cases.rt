@@ -6,7 +6,7 @@ ghost use Rattle.liquid_strings.specs.meaning.Cases.{capitalized, lowercased};
 
 use std::alloc::{AllocError, Global};
 
-/// Returns the text with each character in lower case. A sigma at the end of a word is treated as any other.
+/// Returns the string with each character in lower case. A sigma at the end of a word is treated as any other.
 pub fn to_lowercase(alloc: Global, text: &str) -> Result<String, AllocError>
     ensures { IfOk result (λ t. string_bytes t ≡ lowercased text.now) }
 {
@@ -15,7 +15,7 @@ pub fn to_lowercase(alloc: Global, text: &str) -> Result<String, AllocError>
     Ok(lowercased)
 }
 
-/// Returns the text with its first character in upper case and the others in lower case.
+/// Returns the string with its first character in upper case and the others in lower case.
 pub fn capitalize(alloc: Global, text: &str) -> Result<String, AllocError>
     ensures { IfOk result (λ t. string_bytes t ≡ capitalized text.now) }
 {
@@ -30,7 +30,7 @@ pub fn capitalize(alloc: Global, text: &str) -> Result<String, AllocError>
     Ok(capitalized)
 }
 
-/// Appends the text with each character in lower case.
+/// Appends the string with each character in lower case.
 fn push_lowercase(to: &mut String, text: &str) -> Result<(), AllocError>
     ensures { OnOk result (string_bytes to.new ≡ string_bytes to.old ++ lowercased text.now) }
 {

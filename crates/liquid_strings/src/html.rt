@@ -6,7 +6,7 @@ ghost use Rattle.liquid_strings.specs.meaning.Escape.{entity, escaped, escaped_o
 
 use std::alloc::{AllocError, Global};
 
-/// Returns the text with each of `&`, `<`, `>`, `"` and `'` as its entity.
+/// Returns the string with each of `&`, `<`, `>`, `"` and `'` as its entity.
 pub fn escape(alloc: Global, text: &str) -> Result<String, AllocError>
     ensures { IfOk result (λ t. string_bytes t ≡ escaped text.now) }
 {
@@ -23,7 +23,7 @@ pub fn escape(alloc: Global, text: &str) -> Result<String, AllocError>
     Ok(escaped)
 }
 
-/// Returns the text with each of `&`, `<`, `>`, `"` and `'` as its entity, except for an `&` that begins an entity: one
+/// Returns the string with each of `&`, `<`, `>`, `"` and `'` as its entity, except for an `&` that begins an entity: one
 /// that is followed by ASCII letters and `;`, or by `#`, digits and `;`.
 pub fn escape_once(alloc: Global, text: &str) -> Result<String, AllocError>
     ensures { IfOk result (λ t. string_bytes t ≡ escaped_once text.now) }

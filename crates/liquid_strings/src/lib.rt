@@ -1,4 +1,4 @@
-//! Operations on texts that the standard filters use.
+//! Operations on strings that the standard filters use.
 #![tactic(auto)]
 
 mod cases;

@@ -1,4 +1,4 @@
-//! The pieces of a text.
+//! The pieces of a string.
 ghost use Rattle.std.specs.Prelude.{◌≡◌, ◌++◌, ◌<◌, chars, encode_utf8, length, map, IfOk, OnOk};
 ghost use Rattle.liquid_strings.specs.meaning.Pieces.{pieces, pieces_between};
 ghost use Rattle.liquid_strings.specs.meaning.Split.{split, without_empty_end, words};
@@ -7,7 +7,7 @@ ghost use Rattle.memchr.specs.Find.{matches};
 use memchr::memmem;
 use std::alloc::{AllocError, Global};
 
-/// Returns the pieces of the text between the places of `search`, which are taken from left to right without overlap.
+/// Returns the pieces of the string between the places of `search`, which are taken from left to right without overlap.
 ///
 /// An empty `search` has a place before each character and at the end.
 pub fn pieces<'t>(alloc: Global, text: &'t str, search: &str) -> Result<Vec<&'t str>, AllocError>
@@ -24,7 +24,7 @@ pub fn pieces<'t>(alloc: Global, text: &'t str, search: &str) -> Result<Vec<&'t 
     Ok(pieces)
 }
 
-/// Returns the characters of the text, each as a text.
+/// Returns the characters of the string, each as a string.
 pub fn characters(alloc: Global, text: &str) -> Result<Vec<&str>, AllocError>
     ensures { IfOk result (λ v. map (λ p. p.now) v.items ≡ map encode_utf8 (chars text.now)) }
 {
@@ -33,7 +33,7 @@ pub fn characters(alloc: Global, text: &str) -> Result<Vec<&str>, AllocError>
     Ok(characters)
 }
 
-/// Returns the words of the text: its longest runs without whitespace.
+/// Returns the words of the string: its longest runs without whitespace.
 pub fn words(alloc: Global, text: &str) -> Result<Vec<&str>, AllocError>
     ensures { IfOk result (λ v. map (λ p. p.now) v.items ≡ words text.now) }
 {
@@ -44,7 +44,7 @@ pub fn words(alloc: Global, text: &str) -> Result<Vec<&str>, AllocError>
     Ok(words)
 }
 
-/// Returns the words of the text if `separator` is a space, its characters if it is empty, and otherwise the pieces
+/// Returns the words of the string if `separator` is a space, its characters if it is empty, and otherwise the pieces
 /// between its places, without empty ones at the end.
 pub fn split<'t>(alloc: Global, text: &'t str, separator: &str) -> Result<Vec<&'t str>, AllocError>
     ensures { IfOk result (λ v. map (λ p. p.now) v.items ≡ split separator.now text.now) }
@@ -73,7 +73,7 @@ fn drop_empty_end(pieces: &mut Vec<&str>)
     pieces.truncate(kept);
 }
 
-/// Appends the pieces between the places of a search text that is not empty.
+/// Appends the pieces between the places of a search string that is not empty.
 fn push_pieces<'t>(pieces: &mut Vec<&'t str>, text: &'t str, search: &str) -> Result<(), AllocError>
     requires { 0 < length search.now }
     ensures { OnOk result (map (λ p. p.now) pieces.new.items
@@ -88,7 +88,7 @@ fn push_pieces<'t>(pieces: &mut Vec<&'t str>, text: &'t str, search: &str) -> Re
     Ok(())
 }
 
-/// Appends the characters of the text.
+/// Appends the characters of the string.
 fn push_characters<'t>(pieces: &mut Vec<&'t str>, text: &'t str) -> Result<(), AllocError>
     ensures { OnOk result (map (λ p. p.now) pieces.new.items ≡ map (λ p. p.now) pieces.old.items ++ map encode_utf8 (chars text.now)) }
 {

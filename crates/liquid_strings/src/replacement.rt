@@ -1,4 +1,4 @@
-//! Parts of a text replaced.
+//! Parts of a string replaced.
 ghost use Rattle.std.specs.Prelude.{◌≡◌, ◌+◌, ◌≤◌, IfOk, Some, string_bytes, length};
 ghost use Rattle.std.specs.Str.{IsCharBoundary};
 ghost use Rattle.liquid_strings.specs.meaning.Replace.{replaced, replaced_first, replaced_last, replaced_at, with_line_ends};
@@ -7,7 +7,7 @@ use crate::parts::pieces;
 use memchr::memmem;
 use std::alloc::{AllocError, Global};
 
-/// Returns the text with `by` in each place of `search`, which are taken from left to right without overlap.
+/// Returns the string with `by` in each place of `search`, which are taken from left to right without overlap.
 ///
 /// An empty `search` has a place before each character and at the end.
 pub fn replace(alloc: Global, text: &str, search: &str, by: &str) -> Result<String, AllocError>
@@ -17,7 +17,7 @@ pub fn replace(alloc: Global, text: &str, search: &str, by: &str) -> Result<Stri
     pieces.join(alloc, by)
 }
 
-/// Returns the text with `by` in the first place of `search`.
+/// Returns the string with `by` in the first place of `search`.
 pub fn replace_first(
     alloc: Global,
     text: &str,
@@ -32,7 +32,7 @@ pub fn replace_first(
     }
 }
 
-/// Returns the text with `by` in the last place of `search`.
+/// Returns the string with `by` in the last place of `search`.
 pub fn replace_last(alloc: Global, text: &str, search: &str, by: &str) -> Result<String, AllocError>
     ensures { IfOk result (λ t. string_bytes t ≡ replaced_last search.now by.now text.now) }
 {
@@ -42,7 +42,7 @@ pub fn replace_last(alloc: Global, text: &str, search: &str, by: &str) -> Result
     }
 }
 
-/// Returns the text with `by` in place of each line feed and a carriage return right before it.
+/// Returns the string with `by` in place of each line feed and a carriage return right before it.
 pub fn replace_line_ends(alloc: Global, text: &str, by: &str) -> Result<String, AllocError>
     ensures { IfOk result (λ t. string_bytes t ≡ with_line_ends by.now text.now) }
 {
@@ -50,7 +50,7 @@ pub fn replace_line_ends(alloc: Global, text: &str, by: &str) -> Result<String, 
     replace(alloc, lines.as_str(), "\n", by)
 }
 
-/// Returns the text with `by` in place of the bytes from `at` on.
+/// Returns the string with `by` in place of the bytes from `at` on.
 fn replace_at(
     alloc: Global,
     text: &str,

@@ -4,7 +4,7 @@ ghost use Rattle.liquid_strings.specs.meaning.Slices.{count_in, sliced, sliced_a
 
 use crate::truncation::{character_count, cut};
 
-/// Returns the characters of the text from a place on, at most `count` of them. A place below 0 counts from the end.
+/// Returns the characters of the string from a place on, at most `count` of them. A place below 0 counts from the end.
 pub fn slice(text: &str, start: i64, count: i64) -> &str
     ensures { result.now ≡ sliced_text start count text.now }
 {

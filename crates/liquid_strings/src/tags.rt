@@ -10,7 +10,7 @@ ghost use Rattle.liquid_strings.specs.steps.Kinds.{FitsText, kind_of};
 use memchr::memmem;
 use std::alloc::{AllocError, Global};
 
-/// Parts of a text that are left out: each from an opener to the first closer after it.
+/// Parts of a string that are left out: each from an opener to the first closer after it.
 #[derive(Clone, Copy)]
 struct Kind<'k> {
     opener: &'k str,
@@ -19,7 +19,7 @@ struct Kind<'k> {
     end: usize,
 }
 
-/// Returns the text without scripts, comments and styles, and then without tags.
+/// Returns the string without scripts, comments and styles, and then without tags.
 pub fn strip_tags(alloc: Global, text: &str) -> Result<String, AllocError>
     ensures { IfOk result (λ t. string_bytes t ≡ stripped text.now) }
 {
@@ -32,7 +32,7 @@ pub fn strip_tags(alloc: Global, text: &str) -> Result<String, AllocError>
     leave_out(alloc, rest, &[tag])
 }
 
-/// Returns the parts between these texts, of a text.
+/// Returns the parts between these strings, of a string.
 fn parts_of<'k>(text: &str, opener: &'k str, closer: &'k str) -> Kind<'k>
     ensures opener { result.opener.now ≡ opener.now }
     ensures closer { result.closer.now ≡ closer.now }
@@ -49,7 +49,7 @@ fn parts_of<'k>(text: &str, opener: &'k str, closer: &'k str) -> Kind<'k>
     }
 }
 
-/// Returns the text without its parts of these kinds, which are taken from left to right.
+/// Returns the string without its parts of these kinds, which are taken from left to right.
 fn leave_out(alloc: Global, text: &str, kinds: &[Kind<'_>]) -> Result<String, AllocError>
     requires { All (FitsText text.now) kinds.now }
     ensures { IfOk result (λ t. string_bytes t ≡ without (map kind_of kinds.now) text.now) }

@@ -1,4 +1,4 @@
-//! Parts of a text by counts of characters or words.
+//! Parts of a string by counts of characters or words.
 ghost use Rattle.std.specs.Prelude.{◌≡◌, ◌==◌, ◌&&◌, ◌||◌, not, nat_lt, chars, drop, encode_utf8_all, length, string_bytes, take, IfOk};
 ghost use Rattle.std.specs.Str.{trim_end};
 ghost use Rattle.liquid_strings.specs.meaning.Truncation.{truncated, truncated_at, truncated_words};
@@ -6,7 +6,7 @@ ghost use Rattle.liquid_strings.specs.meaning.Truncation.{truncated, truncated_a
 use crate::parts::words;
 use std::alloc::{AllocError, Global};
 
-/// Splits the text after that many characters, or at its end if it has fewer.
+/// Splits the string after that many characters, or at its end if it has fewer.
 pub fn cut(text: &str, count: usize) -> (&str, &str)
     ensures front { result.0.now ≡ encode_utf8_all (take count (chars text.now)) }
     ensures back { result.1.now ≡ encode_utf8_all (drop count (chars text.now)) }
@@ -16,7 +16,7 @@ pub fn cut(text: &str, count: usize) -> (&str, &str)
     (front, back)
 }
 
-/// Returns the text without that many characters at its start.
+/// Returns the string without that many characters at its start.
 fn rest_after(text: &str, count: usize) -> &str
     ensures { result.now ≡ encode_utf8_all (drop count (chars text.now)) }
 {
@@ -29,7 +29,7 @@ fn rest_after(text: &str, count: usize) -> &str
     rest.as_str()
 }
 
-/// Returns the text if it has at most `count` characters. Otherwise returns its first ones and the ending, with `count`
+/// Returns the string if it has at most `count` characters. Otherwise returns its first ones and the ending, with `count`
 /// characters in all if the ending has no more.
 pub fn truncate(alloc: Global, text: &str, count: i64, ending: &str) -> Result<String, AllocError>
     ensures { IfOk result (λ t. string_bytes t ≡ truncated count ending.now text.now) }
@@ -44,7 +44,7 @@ pub fn truncate(alloc: Global, text: &str, count: i64, ending: &str) -> Result<S
     format!(in alloc; "{front}{ending}")
 }
 
-/// Returns the text if nothing follows its word at `count`, counted from 1. Otherwise returns the words up to that one,
+/// Returns the string if nothing follows its word at `count`, counted from 1. Otherwise returns the words up to that one,
 /// with a space between them, and the ending.
 pub fn truncate_words(
     alloc: Global,
@@ -60,7 +60,7 @@ pub fn truncate_words(
     }
 }
 
-/// Returns the text if nothing follows its word at `count`, otherwise the words up to that one and the ending.
+/// Returns the string if nothing follows its word at `count`, otherwise the words up to that one and the ending.
 fn truncate_words_after(
     alloc: Global,
     text: &str,
@@ -79,7 +79,7 @@ fn truncate_words_after(
     }
 }
 
-/// Returns `true` if anything follows the word at `count` of a text with that many words.
+/// Returns `true` if anything follows the word at `count` of a string with that many words.
 fn goes_on(text: &str, words: usize, count: usize) -> bool
     ensures { result ≡ (nat_lt count words || (words == count && not (length (trim_end text.now) == length text.now))) }
 {

@@ -1,4 +1,4 @@
-//! Texts in URLs.
+//! Strings in URLs.
 ghost use Rattle.std.specs.Prelude.{◌≡◌, option_map, string_bytes, IfOk};
 ghost use Rattle.liquid_strings.specs.meaning.Url.{url_decoded, url_encoded};
 
@@ -17,7 +17,7 @@ pub const ESCAPED: AsciiSet = ascii_set!(
         .remove(b' ')
 );
 
-/// Returns the text as a part of a URL: ASCII letters, digits and `_.-~` are kept, a space is `+`, and each other byte
+/// Returns the string as a part of a URL: ASCII letters, digits and `_.-~` are kept, a space is `+`, and each other byte
 /// is `%` and two hexadecimal digits.
 pub fn url_encode(alloc: Global, text: &str) -> Result<String, AllocError>
     ensures { IfOk result (λ t. string_bytes t ≡ url_encoded text.now) }
@@ -27,7 +27,7 @@ pub fn url_encode(alloc: Global, text: &str) -> Result<String, AllocError>
     replace(alloc, encoded.as_str(), " ", "+")
 }
 
-/// Returns the text of a part of a URL, or `None` if its bytes are not UTF-8. A `%` without two hexadecimal digits is
+/// Returns the string of a part of a URL, or `None` if its bytes are not UTF-8. A `%` without two hexadecimal digits is
 /// kept.
 pub fn url_decode(alloc: Global, text: &str) -> Result<Option<String>, AllocError>
     ensures { IfOk result (λ o. option_map string_bytes o ≡ url_decoded text.now) }

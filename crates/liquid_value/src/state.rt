@@ -53,7 +53,7 @@ impl State {
     /// Returns `true` if the scalar is in the state.
     ///
     /// Numbers and dates are truthy and nothing else. A boolean is truthy if it is true, and default and blank if
-    /// it is false. A text is always truthy, default and empty if it has no bytes, and blank if it has nothing but
+    /// it is false. A string is always truthy, default and empty if it has no bytes, and blank if it has nothing but
     /// whitespace.
     pub fn holds_of_scalar<T: AsStr>(self, scalar: &ScalarOf<T>) -> bool
         ensures { result ≡ scalar_state (scal T.text scalar.now) self }

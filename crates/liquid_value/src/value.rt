@@ -83,7 +83,7 @@ impl Value {
         }
     }
 
-    /// Returns the value of a number, a boolean, a text, a date or a date time.
+    /// Returns the value of a number, a boolean, a string, a date or a date time.
     pub fn scalar<T: Into<Scalar>>(value: T) -> Value
         ensures { (s : _) × T.converts value s × (view result ≡ scalar (scal string_bytes s)) }
     {

@@ -10,7 +10,7 @@ use liquid_scalar::Scalar;
 use liquid_value::{Array, Object};
 use std::alloc::{AllocError, Global};
 
-/// Returns the scalar of a number, a boolean, a text, a date or a date time.
+/// Returns the scalar of a number, a boolean, a string, a date or a date time.
 pub fn scalar_of<T: Into<Scalar>>(value: T) -> Scalar
     ensures { T.converts value result }
 {

@@ -20,7 +20,7 @@ pub trait ObjectIndex: Ord + Hash {
 
     /// Returns the value at the key with this text, if there is one. It takes no memory.
     ///
-    /// The default compares one key after another. A type whose maps can be searched by a text, such as `String`,
+    /// The default compares one key after another. A type whose maps can be searched by a string, such as `String`,
     /// searches.
     fn value_in<'m, V>(map: &'m BTreeMap<Self, V>, name: &str) -> Option<&'m V>
     where

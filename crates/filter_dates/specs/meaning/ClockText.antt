@@ -73,7 +73,7 @@ offset_size (a ∷ b ∷ rest) = do
   Some (hours * 3600 + minutes * 60)
 offset_size other = None
 
--- whether a text is a name of the offset 0
+-- whether a string is a name of the offset 0
 abbrev pub is_utc : List ℕ → Bool
 is_utc text =
     bytes_eq (map to_ascii_lowercase text) (codes "z") || (bytes_eq (map to_ascii_lowercase text) (codes "utc")
@@ -95,7 +95,7 @@ offset_of (c ∷ rest) = if is_utc (c ∷ rest) then Some (pos 0) else signed_of
 abbrev pub is_clock_byte : ℕ → Bool
 is_clock_byte b = is_digit b || ((b == colon) || (b == dot))
 
--- the number of bytes of the time of day with which a text begins
+-- the number of bytes of the time of day with which a string begins
 abbrev pub clock_length : List ℕ → ℕ
 clock_length text = length (take_while is_clock_byte text)
 

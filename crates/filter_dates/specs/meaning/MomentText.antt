@@ -45,7 +45,7 @@ abbrev pub without_weekday : List (List ℕ) → List (List ℕ)
 without_weekday [] = []
 without_weekday (word ∷ others) = if is_some (weekday_named word) then others else word ∷ others
 
--- the words of a text, which commas part as whitespace does
+-- the words of a string, which commas part as whitespace does
 abbrev pub moment_words : List ℕ → List (List ℕ)
 moment_words text = words (replaced (codes ",") (codes " ") text)
 
@@ -53,7 +53,7 @@ moment_words text = words (replaced (codes ",") (codes " ") text)
 abbrev pub fields_in : List (List ℕ) → Option Fields
 fields_in ws = option_or (in_numbers ws) (in_words ws)
 
--- the numbers that a text writes, perhaps after a weekday
+-- the numbers that a string writes, perhaps after a weekday
 abbrev pub fields_of : List ℕ → Option Fields
 fields_of text = fields_in (without_weekday (moment_words text))
 
@@ -68,6 +68,6 @@ pub record HasFields (fields : Fields) (dt : DateTime) : Type 0 where
   pub nanosecond : nanosecond dt ≡ fields.clock.nanosecond
   pub offset : offset_seconds dt ≡ fields.offset
 
--- the date time of the numbers that a text writes, if the calendar and the clock have it
+-- the date time of the numbers that a string writes, if the calendar and the clock have it
 abbrev pub IsMomentInText : Form DateTime
 IsMomentInText text dt = (fields : Fields) × (fields_of text ≡ Some fields) × HasFields fields dt

@@ -13,11 +13,11 @@ use Rattle.filter_dates.specs.meaning.MomentText.{IsMomentInText}
 abbrev pub IsMidnight : CivilDate → DateTime → Type 0
 IsMidnight d dt = SameDate (civil_date dt) d × (time_nanos (civil_time dt) ≡ 0) × (offset_seconds dt ≡ pos 0)
 
--- midnight of the date that a text writes
+-- midnight of the date that a string writes
 abbrev pub IsMidnightText : DateTime → Form DateTime
 IsMidnightText now bytes dt = (d : CivilDate) × IsDateText bytes now d × IsMidnight d dt
 
--- the date time that a text writes, otherwise midnight of the date that it writes, where `now` and `today` are this
+-- the date time that a string writes, otherwise midnight of the date that it writes, where `now` and `today` are this
 -- moment
 abbrev pub IsPlainTextAt : DateTime → Form DateTime
 IsPlainTextAt now = first (λ bytes dt. IsDateTimeText bytes now dt) (IsMidnightText now)
@@ -26,7 +26,7 @@ IsPlainTextAt now = first (λ bytes dt. IsDateTimeText bytes now dt) (IsMidnight
 abbrev pub IsTextAt : DateTime → Form DateTime
 IsTextAt now = first (IsPlainTextAt now) IsMomentInText
 
--- the same without such a moment: `now` and `today` mean none, and any other text means the same at each moment
+-- the same without such a moment: `now` and `today` mean none, and any other string means the same at each moment
 abbrev pub IsMomentText : Option DateTime → Form DateTime
 IsMomentText (Some now) bytes dt = IsTextAt now bytes dt
 IsMomentText None bytes dt = (¬ (IsNow bytes)) × ((now : DateTime) → IsTextAt now bytes dt)

@@ -15,7 +15,7 @@ use Rattle.liquid_std.specs.declared.conditions.condition.ConditionShape.{Condit
 use Rattle.liquid_std.specs.meaning.conditions.ConditionsGiven.{condition_given}
 use Rattle.liquid_filters.specs.meaning.value.Errors.{found_error}
 
--- the refusal of an argument that is not a condition, and of a text or a variable that is not one
+-- the refusal of an argument that is not a condition, and of a string or a variable that is not one
 abbrev pub expression_expected : Tree → Refusal
 expression_expected t = found_error (codes "Expression expected") t
 
@@ -31,7 +31,7 @@ text_literal (literal (scalar (text t))) = Ok t
 text_literal (literal t) = Err (expression_expected t)
 text_literal (variable name indexes) = Err (variable_found (variable name indexes))
 
--- the tag `if` with a text after its name
+-- the tag `if` with a string after its name
 abbrev pub if_tag : List ℕ → List ℕ
 if_tag inside = codes "{% if " ++ (inside ++ codes " %}")
 
@@ -44,12 +44,12 @@ only_tag other = None
 abbrev pub condition_of_tag : List ℕ → token.Tag → Result ConditionShape Refusal
 condition_of_tag source tag = ok_then (checked source (tag_fault tag)) (λ _. condition_given (handed source tag))
 
--- what a text is read as that has to be a tag with a condition
+-- what a string is read as that has to be a tag with a condition
 abbrev pub tag_read : List ℕ → Result ConditionShape Refusal
 tag_read source =
     ok_then (ok_or (only_tag (cover_of source).elements) (refused_at source (codes "Invalid liquid") source)) (condition_of_tag source)
 
--- the condition that a text is, if it is one
+-- the condition that a string is, if it is one
 abbrev pub condition_in : List ℕ → Option ConditionShape
 condition_in inside = result_ok (tag_read (if_tag inside))
 

@@ -1,4 +1,4 @@
--- The decimal that a text writes.
+-- The decimal that a string writes.
 use Rattle.std.specs.Prelude.{ℕ, ◌+◌, List, ◌++◌, Bool, ◌&&◌, ◌==◌, Option, Some, None, nat_lt, length, take, drop, if◌then◌else◌}
 use Rattle.std.specs.List.{position}
 use Rattle.std.specs.Str.{all_ascii_digits}
@@ -9,7 +9,7 @@ use Rattle.liquid_decimals.specs.meaning.Dec.{Dec, limited, signed}
 abbrev pub is_numeral : List ℕ → Bool
 is_numeral ds = nat_lt 0 (length ds) && all_ascii_digits ds
 
--- where a text has its first point
+-- where a string has its first point
 abbrev pub point : List ℕ → Option ℕ
 point bytes = position (λ c. c == 46) bytes
 
@@ -27,10 +27,10 @@ abbrev pub decimal_around : Bool → List ℕ → Option ℕ → Option Dec
 decimal_around minus bytes None = decimal_of_whole minus bytes
 decimal_around minus bytes (Some p) = decimal_of_parts minus (take p bytes) (drop (p + 1) bytes)
 
--- a text without its minus
+-- a string without its minus
 abbrev pub without_minus : List ℕ → List ℕ
 without_minus bytes = if starts_with_minus bytes then drop 1 bytes else bytes
 
--- the decimal that a text writes: a minus or none, digits, and, if there is a point, digits after it
+-- the decimal that a string writes: a minus or none, digits, and, if there is a point, digits after it
 abbrev pub decimal_of_text : List ℕ → Option Dec
 decimal_of_text bytes = decimal_around (starts_with_minus bytes) (without_minus bytes) (point (without_minus bytes))

@@ -6,7 +6,7 @@ use Rattle.serde_json.specs.Written.{compact_text}
 use Rattle.liquid_scalar.specs.meaning.Scalar.{Scal, integer, boolean, text, boolean_text, render_scalar}
 use Rattle.liquid_value.specs.meaning.Tree.{Tree, nil, state, scalar, array, object, Items, no_items, item, Members, no_members, member}
 
--- a text in quotes, escaped as JSON requires
+-- a string in quotes, escaped as JSON requires
 abbrev pub quoted : List ℕ → List ℕ
 quoted bytes = compact_text (json.string bytes)
 

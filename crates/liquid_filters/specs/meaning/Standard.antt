@@ -66,7 +66,7 @@ placed name optional answers = record { name = name; optional = optional; keywor
 abbrev pub alone : List ℕ → (Tree → Result Tree Refusal) → FilterSense
 alone name answers = record { name = name; optional = none; keywords = []; answers = λ input g. answers input }
 
--- the filters on texts
+-- the filters on strings
 abbrev pub text_sense : TextKind → FilterSense
 text_sense texts.Append = placed (codes "append") one text_joints.appended
 text_sense texts.Base64Decode = alone (codes "base64_decode") text_encoding.base64_decoded

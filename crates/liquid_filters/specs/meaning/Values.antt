@@ -24,7 +24,7 @@ allows_false (Some t) = truthy t
 abbrev pub is_missing : Tree → Option Tree → Bool
 is_missing input allow = query_state input DefaultValue && not (is_false input && allows_false allow)
 
--- the argument, or the empty text without one, if the input is missing; otherwise the input
+-- the argument, or the empty string without one, if the input is missing; otherwise the input
 abbrev pub chosen : Tree → List Tree → Bool → Result Tree Refusal
 chosen input [] missing = Ok (cond missing (scalar (text [])) input)
 chosen input (t ∷ []) missing = Ok (cond missing t input)

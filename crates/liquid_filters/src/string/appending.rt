@@ -1,4 +1,4 @@
-//! Filters that join two texts.
+//! Filters that join two strings.
 ghost use Rattle.std.specs.Prelude.{map, Ok};
 ghost use Rattle.liquid_error.specs.meaning.Told.{Gives};
 ghost use Rattle.liquid_value.specs.meaning.Cow.{cow_view};
@@ -49,7 +49,7 @@ fn join(alloc: Global, front: &Value, back: &Value) -> Result<Value, Error>
     Ok(Value::Scalar(ScalarOf::Str(text)))
 }
 
-/// Returns how many bytes to expect of the text of a value: those of a text, and room for a number otherwise.
+/// Returns how many bytes to expect of the text of a value: those of a string, and room for a number otherwise.
 fn width(value: &Value) -> usize {
     match value {
         Value::Scalar(ScalarOf::Str(text)) => text.len(),

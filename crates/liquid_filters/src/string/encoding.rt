@@ -1,4 +1,4 @@
-//! Filters that encode and decode a text.
+//! Filters that encode and decode a string.
 ghost use Rattle.std.specs.Prelude.{Ok};
 ghost use Rattle.liquid_error.specs.meaning.Told.{Gives};
 ghost use Rattle.liquid_value.specs.meaning.View.{view as tree_of};
@@ -54,7 +54,7 @@ pub fn base64_encode(alloc: Global, input: &Value) -> Result<Value, Error>
     Ok(Value::Scalar(ScalarOf::Str(encoded)))
 }
 
-/// Returns the text whose base64 is the input. Fails for a text that is not base64, and for bytes that are not text.
+/// Returns the text whose base64 is the input. Fails for a string that is not base64, and for bytes that are not text.
 pub fn base64_decode(alloc: Global, input: &Value) -> Result<Value, Error>
     ensures { Gives tree_of result (base64_decoded (tree_of input.now)) }
 {
@@ -87,7 +87,7 @@ pub fn base64_url_safe_decode(alloc: Global, input: &Value) -> Result<Value, Err
     }
 }
 
-/// Returns bytes that were decoded, as a text. Fails for bytes that are not text.
+/// Returns bytes that were decoded, as a string. Fails for bytes that are not text.
 fn decode_text(alloc: Global, bytes: Vec<u8>) -> Result<Value, Error>
     ensures { Gives tree_of result (decoded_text (text_of_bytes bytes.items)) }
 {

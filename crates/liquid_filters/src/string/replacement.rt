@@ -1,4 +1,4 @@
-//! Filters that replace or remove parts of a text.
+//! Filters that replace or remove parts of a string.
 ghost use Rattle.std.specs.Prelude.{map, Ok};
 ghost use Rattle.liquid_error.specs.meaning.Told.{Gives};
 ghost use Rattle.liquid_value.specs.meaning.Cow.{cow_view};

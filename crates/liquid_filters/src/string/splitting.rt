@@ -1,4 +1,4 @@
-//! The filter that splits a text.
+//! The filter that splits a string.
 ghost use Rattle.std.specs.Prelude.{◌≡◌, map, IfOk};
 ghost use Rattle.liquid_error.specs.meaning.Told.{Gives};
 ghost use Rattle.liquid_value.specs.meaning.Cow.{cow_view};
@@ -29,7 +29,7 @@ pub fn split(alloc: Global, input: &Value, arguments: &[ValueCow<'_>]) -> Result
     }
 }
 
-/// Returns the array of the texts.
+/// Returns the array of the strings.
 fn array_of(alloc: Global, parts: &[&str]) -> Result<Value, AllocError>
     ensures { IfOk result (λ v. tree_of v ≡ texts (map (λ p. p.now) parts.now)) }
 {

@@ -1,4 +1,4 @@
-//! Filters that cut whitespace off the ends of a text.
+//! Filters that cut whitespace off the ends of a string.
 ghost use Rattle.std.specs.Prelude.{Ok};
 ghost use Rattle.liquid_error.specs.meaning.Told.{Gives};
 ghost use Rattle.liquid_value.specs.meaning.View.{view as tree_of};

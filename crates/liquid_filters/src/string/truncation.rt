@@ -1,4 +1,4 @@
-//! Filters that cut a text or an array.
+//! Filters that cut a string or an array.
 ghost use Rattle.std.specs.Prelude.{◌≡◌, map, IfOk};
 ghost use Rattle.liquid_error.specs.meaning.Told.{Gives};
 ghost use Rattle.liquid_value.specs.meaning.Cow.{cow_view};

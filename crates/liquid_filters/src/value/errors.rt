@@ -81,7 +81,7 @@ pub fn order_error(alloc: Global, first: &Value, second: &Value) -> Error
         .context(alloc, "second", second.as_str())
 }
 
-/// Returns the error for a text that is not the base64 of any bytes.
+/// Returns the error for a string that is not the base64 of any bytes.
 pub fn base64_error(alloc: Global) -> Error
     ensures { IfSome (told result) (λ r. r ≡ invalid_base64) }
 {

@@ -62,7 +62,7 @@ pub fn whole_of(value: &Value) -> Option<i64>
     }
 }
 
-/// Returns the number of a scalar, if it is one. A text may have whitespace at its ends.
+/// Returns the number of a scalar, if it is one. A string may have whitespace at its ends.
 fn scalar_number(scalar: &Scalar) -> Option<i64>
     ensures { result ≡ scalar_number (scal string_bytes scalar.now) }
 {

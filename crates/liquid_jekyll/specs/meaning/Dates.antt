@@ -74,7 +74,7 @@ abbrev pub written_if : {P : DateTime → Type 0} → DateForm → DayStyle → 
 written_if form style input (inl (dt, _)) = written_moment form style dt
 written_if form style input (inr _) = Err (moment_expected input)
 
--- whether an input is nil or the empty text, which stay
+-- whether an input is nil or the empty string, which stay
 abbrev pub is_kept : Tree → Bool
 is_kept nil = true
 is_kept (scalar (text t)) = length t == 0
@@ -84,7 +84,7 @@ abbrev pub written : DateForm → DayStyle → Option DateTime → Tree → Resu
 written form style now input =
     if is_kept input then Ok input else written_if {P = IsMomentOf now input} form style input (moment_of now input)
 
--- the style that two texts name
+-- the style that two strings name
 abbrev pub style_named : List ℕ → List ℕ → DayStyle
 style_named day order =
     if not (bytes_eq day (codes "ordinal")) then Plain else if bytes_eq order (codes "US") then American else Ordinal

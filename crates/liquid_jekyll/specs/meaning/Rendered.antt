@@ -1,4 +1,4 @@
--- Texts that a host has rendered for a filter, in the object `rendered`.
+-- Strings that a host has rendered for a filter, in the object `rendered`.
 use Rattle.std.specs.Prelude.{ℕ, List, codes, Option, Result, Ok, ok_or, option_and_then, option_map}
 use Rattle.std.specs.Option.{option_map_or}
 use Rattle.liquid_error.specs.meaning.Refusal.{Refusal, plain, with_context}
@@ -9,11 +9,11 @@ use Rattle.liquid_filters.specs.meaning.string.Written.{written}
 use Rattle.liquid_jekyll.specs.meaning.text.Typography.{smartened}
 use Rattle.liquid_jekyll.specs.meaning.Seen.{member, value_seen}
 
--- the refusal of a text that the host has not rendered
+-- the refusal of a string that the host has not rendered
 abbrev pub no_rendered_text : List ℕ → List ℕ → Refusal
 no_rendered_text filter text = with_context (codes "text") text (with_context (codes "filter") filter (plain (codes "No rendered text")))
 
--- the entry of a text among those of a filter
+-- the entry of a string among those of a filter
 abbrev pub entry : List ℕ → List ℕ → Tree → Option Tree
 entry filter text rendered = option_and_then (member text) (member filter rendered)
 
@@ -22,7 +22,7 @@ abbrev pub rendered_text : {Reg : Type 0} → List ℕ → Tree → View Reg →
 rendered_text filter input v =
     ok_or (entry filter (render input) (value_seen (codes "rendered") v)) (no_rendered_text filter (render input))
 
--- a text with typographic signs, if that needs no reader of HTML
+-- a string with typographic signs, if that needs no reader of HTML
 abbrev pub typographic : List ℕ → Result Tree Refusal
 typographic text = ok_or (option_map written (smartened text)) (no_rendered_text (codes "smartify") text)
 

@@ -22,7 +22,7 @@ use Rattle.liquid_jekyll.specs.declared.text_kinds.JekyllTextKind.TheVariants as
 use Rattle.liquid_jekyll.specs.meaning.Dates.{written_date}
 use Rattle.liquid_jekyll.specs.meaning.Texts.{inspected}
 
--- the filters on texts
+-- the filters on strings
 abbrev pub text_sense : JekyllTextKind → FilterSense
 text_sense texts.CgiEscape = alone (codes "cgi_escape") (λ input. Ok (url_encoded input))
 text_sense texts.Inspect = alone (codes "inspect") (λ input. Ok (inspected input))

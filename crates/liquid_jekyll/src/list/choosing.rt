@@ -139,7 +139,7 @@ fn fits(alloc: Global, wanted: &Value, key: &Value) -> Result<bool, AllocError>
     }
 }
 
-/// Returns `true` for nil, for a text and an array whose text is empty, and for an object without members.
+/// Returns `true` for nil, for a string and an array whose text is empty, and for an object without members.
 fn is_hollow(alloc: Global, key: &Value) -> Result<bool, AllocError>
     ensures { IfOk result (λ b. b ≡ Spec.is_hollow (tree_of key.now)) }
 {

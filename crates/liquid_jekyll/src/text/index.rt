@@ -37,7 +37,7 @@ fn index_range(text: &str) -> Option<(usize, usize)>
     None
 }
 
-/// Returns the length of the name of an index page with which a text begins, if it ends a line.
+/// Returns the length of the name of an index page with which a string begins, if it ends a line.
 fn index_length(text: &[u8]) -> Option<usize>
     ensures value { result ≡ Spec.index_length text.now }
     ensures within { IfSome result (λ n. n ≤ length text.now) }

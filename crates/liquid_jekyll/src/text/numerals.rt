@@ -1,18 +1,18 @@
-//! Integers at the start of a text.
+//! Integers at the start of a string.
 ghost use Rattle.std.specs.Prelude.{◌≡◌, ◌≤◌, length};
 ghost use Rattle.std.specs.List.{prefix_len};
 ghost use Rattle.liquid_jekyll.specs.meaning.text.Numerals as Spec;
 
 use crate::text::spaces::without_leading;
 
-/// Returns the sign and the digits with which a text begins after whitespace, or the empty text if there is no digit.
+/// Returns the sign and the digits with which a string begins after whitespace, or the empty string if there is no digit.
 pub fn numeral(text: &str) -> &str
     ensures { result.now ≡ Spec.numeral text.now }
 {
     numeral_at(without_leading(text))
 }
 
-/// Returns the sign and the digits with which a text begins, or the empty text if there is no digit.
+/// Returns the sign and the digits with which a string begins, or the empty string if there is no digit.
 fn numeral_at(text: &str) -> &str
     ensures { result.now ≡ Spec.numeral_at text.now }
 {

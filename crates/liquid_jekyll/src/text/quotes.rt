@@ -4,7 +4,7 @@ ghost use Rattle.liquid_jekyll.specs.meaning.text.Quotes as Spec;
 
 use crate::text::character_sets::{is_space, is_word};
 
-/// What stands at a place of a text.
+/// What stands at a place of a string.
 #[derive(Debug, Clone, Copy, PartialEq, Eq)]
 pub(crate) enum Mark {
     /// A character that stays.
@@ -65,7 +65,7 @@ pub(crate) fn is_quote(character: char) -> bool
     character == '"' || character == '\''
 }
 
-/// Returns the mark of a text in which one of the first two characters is a quote.
+/// Returns the mark of a string in which one of the first two characters is a quote.
 pub(crate) fn quote_mark(text: &[char]) -> Mark
     ensures { result ≡ Spec.quote_mark text.now }
 {

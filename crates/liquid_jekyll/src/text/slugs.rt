@@ -23,7 +23,7 @@ pub enum SlugMode {
     Latin,
 }
 
-/// Returns the slug of a text: a hyphen in place of each run of other characters, none at the ends, in lower case.
+/// Returns the slug of a string: a hyphen in place of each run of other characters, none at the ends, in lower case.
 ///
 /// Of hyphens that the text has at its ends itself, and that the mode keeps, one goes at each end.
 pub fn slugify(alloc: Global, text: &str, mode: SlugMode) -> Result<String, AllocError>

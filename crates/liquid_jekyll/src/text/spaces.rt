@@ -1,4 +1,4 @@
-//! Whitespace at the ends of a text.
+//! Whitespace at the ends of a string.
 ghost use Rattle.std.specs.Prelude.{◌≡◌, ◌≤◌, length, reverse};
 ghost use Rattle.std.specs.List.{prefix_len};
 ghost use Rattle.liquid_jekyll.specs.meaning.text.CharacterSets.{is_space};

@@ -9,7 +9,7 @@ use std::alloc::{AllocError, Global};
 /// Returns the text with signs in place of how they are typed: opening and closing quotes, dashes for `---` and `--`, an
 /// ellipsis for `...`, a guillemet for `>>`, and `&gt;` for another `>`. A line feed at its end goes.
 ///
-/// Returns `None` for a text with `<`, `&`, a backslash or a carriage return, which needs a reader of HTML.
+/// Returns `None` for a string with `<`, `&`, a backslash or a carriage return, which needs a reader of HTML.
 pub fn smartify(alloc: Global, text: &str) -> Result<Option<String>, AllocError>
     ensures { IfOk result (λ t. option_map string_bytes t ≡ Spec.smartened text.now) }
 {
@@ -37,7 +37,7 @@ fn characters_of(alloc: Global, text: &str) -> Result<Vec<char>, AllocError>
     Ok(characters)
 }
 
-/// Returns the characters as a text, with signs in place of how they are typed.
+/// Returns the characters as a string, with signs in place of how they are typed.
 fn smart_text(alloc: Global, characters: &[char]) -> Result<String, AllocError>
     ensures { IfOk result (λ t. string_bytes t ≡ encode_utf8_all (Spec.smart 0 characters.now)) }
 {
@@ -49,7 +49,7 @@ fn smart_text(alloc: Global, characters: &[char]) -> Result<String, AllocError>
     Ok(smart)
 }
 
-/// Adds the mark at the start of a text, unless that character is taken already. Returns how many characters after it are
+/// Adds the mark at the start of a string, unless that character is taken already. Returns how many characters after it are
 /// taken then.
 fn push_next(smart: &mut String, taken: usize, text: &[char]) -> Result<usize, AllocError>
     ensures taken { IfOk result (λ n. n ≡ Spec.taken_after taken text.now) }
@@ -63,7 +63,7 @@ fn push_next(smart: &mut String, taken: usize, text: &[char]) -> Result<usize, A
     Ok(more(mark))
 }
 
-/// Returns what stands at the start of a text.
+/// Returns what stands at the start of a string.
 fn mark_at(text: &[char]) -> Mark
     ensures { result ≡ Spec.mark_at text.now }
 {
@@ -92,7 +92,7 @@ fn begins(text: &[char], first: char, second: char) -> bool
     at(text, 0) == first && at(text, 1) == second
 }
 
-/// Adds what a mark at the start of a text is written as.
+/// Adds what a mark at the start of a string is written as.
 fn push_mark(smart: &mut String, mark: Mark, text: &[char]) -> Result<(), AllocError>
     ensures { OnOk result (string_bytes smart.new ≡ string_bytes smart.old ++ encode_utf8_all (Spec.mark_text mark text.now)) }
 {

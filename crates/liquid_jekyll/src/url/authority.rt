@@ -60,7 +60,7 @@ fn push_port(url: &mut String, scheme: &str, port: &str) -> Result<(), AllocErro
     Ok(url.push_str(port)?)
 }
 
-/// Returns the port that a URL of the scheme has if it names none, or the empty text.
+/// Returns the port that a URL of the scheme has if it names none, or the empty string.
 fn usual_port(scheme: &str) -> &'static str
     ensures { result.now ≡ Spec.usual_port scheme.now }
 {

@@ -1,4 +1,4 @@
-//! A text before and after a mark.
+//! A string before and after a mark.
 ghost use Rattle.std.specs.Prelude.{◌≡◌, option_map};
 ghost use Rattle.liquid_jekyll.specs.meaning.url.Cuts as Spec;
 

@@ -28,7 +28,7 @@ pub fn normal_url(alloc: Global, text: &str) -> Result<String, AllocError>
     Ok(url)
 }
 
-/// Returns the scheme in lower case, or the empty text if there is none.
+/// Returns the scheme in lower case, or the empty string if there is none.
 fn scheme_name(alloc: Global, scheme: Option<&str>) -> Result<String, AllocError>
     ensures { IfOk result (λ t. string_bytes t ≡ Spec.scheme_name (option_map (λ s. s.now) scheme.entry)) }
 {

@@ -55,7 +55,7 @@ const OUTSIDE_URLS: AsciiSet = ascii_set!(OUTSIDE_FRAGMENTS.remove(b'#').remove(
 /// is put into the normal form NFKC, and each byte that doesn't mean itself in the part is escaped, by `%` and two
 /// hexadecimal digits in upper case.
 ///
-/// Bytes that are not a text stay as they are, except for those that don't mean themselves in any part of a URL.
+/// Bytes that are not a string stay as they are, except for those that don't mean themselves in any part of a URL.
 pub fn clean(alloc: Global, text: &str, part: UrlPart) -> Result<String, AllocError>
     ensures { IfOk result (λ t. string_bytes t ≡ Spec.cleaned part text.now) }
 {

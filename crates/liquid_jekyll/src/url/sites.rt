@@ -8,7 +8,7 @@ use crate::url::cuts::cut;
 use crate::url::normal::normal_url;
 use std::alloc::{AllocError, Global};
 
-/// Returns the normal form of a text as a path of a site, after the path that the site begins at. A text with a scheme is
+/// Returns the normal form of a string as a path of a site, after the path that the site begins at. A string with a scheme is
 /// kept.
 pub fn relative_url(alloc: Global, base: &str, text: &str) -> Result<String, AllocError>
     ensures { IfOk result (λ t. string_bytes t ≡ Spec.relative_url base.now text.now) }
@@ -22,8 +22,8 @@ pub fn relative_url(alloc: Global, base: &str, text: &str) -> Result<String, All
     normal_url(alloc, url.as_str())
 }
 
-/// Returns the normal form of a text as a path of a site, after the site's own URL and the path that the site begins at.
-/// A text with a scheme is kept. Without a URL of the site it is as by [`relative_url`].
+/// Returns the normal form of a string as a path of a site, after the site's own URL and the path that the site begins at.
+/// A string with a scheme is kept. Without a URL of the site it is as by [`relative_url`].
 pub fn absolute_url(alloc: Global, site: &str, base: &str, text: &str) -> Result<String, AllocError>
     ensures { IfOk result (λ t. string_bytes t ≡ Spec.absolute_url site.now base.now text.now) }
 {

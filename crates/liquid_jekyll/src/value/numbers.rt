@@ -41,7 +41,7 @@ fn integer_of(alloc: Global, scalar: &Scalar) -> Result<Value, Error>
     }
 }
 
-/// Returns the number with which a text begins after whitespace, or 0 without one. Returns `None` for a number that is
+/// Returns the number with which a string begins after whitespace, or 0 without one. Returns `None` for a number that is
 /// not an `i64`.
 fn leading_integer(text: &str) -> Option<i64>
     ensures { result ≡ Spec.leading_integer text.now }

@@ -1,4 +1,4 @@
-//! Jekyll's filters on texts.
+//! Jekyll's filters on strings.
 ghost use Rattle.std.specs.Prelude.{◌≡◌, map, string_bytes, IfOk, Ok};
 ghost use Rattle.liquid_error.specs.meaning.Told.{Gives};
 ghost use Rattle.liquid_value.specs.meaning.Cow.{cow_view};

@@ -14,7 +14,7 @@ use liquid_scalar::ScalarOf;
 use liquid_value::{Object, Value};
 use std::alloc::{AllocError, Global};
 
-/// Returns the text as a path of the site, after the path that it begins at. Nil is kept, and a text with a scheme. Of an
+/// Returns the text as a path of the site, after the path that it begins at. Nil is kept, and a string with a scheme. Of an
 /// object its member `url` is meant, if it has one.
 pub fn relative_url(alloc: Global, base: &str, input: &Value) -> Result<Value, Error>
     ensures { Gives tree_of result (Ok (Spec.relative_url base.now (tree_of input.now))) }

@@ -41,7 +41,7 @@ object_given (json.object ms) = members_given ms
 object_given (json.array ds) = refused (codes "Object cannot be an array.")
 object_given other = refused (codes "Object cannot be a scalar.")
 
--- a boolean, a text and a number are scalars
+-- a boolean, a string and a number are scalars
 abbrev pub scalar_given : json.Data → Result Scal Refusal
 scalar_given json.null = refused (codes "Scalar must be a string.")
 scalar_given (json.boolean b) = Ok (boolean b)

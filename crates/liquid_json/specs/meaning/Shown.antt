@@ -14,7 +14,7 @@ abbrev pub number_or : Option ℤ → json.Data → json.Data
 number_or (Some n) other = json.number (of_integer n)
 number_or None other = other
 
--- a number, and a text that writes a number, is that number
+-- a number, and a string that writes a number, is that number
 abbrev pub scalar_shown : Scal → json.Data
 scalar_shown s = number_or (to_integer s) (text_shown s)
 

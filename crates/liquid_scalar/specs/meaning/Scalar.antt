@@ -9,7 +9,7 @@ use Rattle.liquid_dates.specs.meaning.Printed.{date_text, date_time_text}
 use Rattle.liquid_scalar.specs.declared.scalar.ScalarOf.{ScalarOf}
 use Rattle.liquid_scalar.specs.declared.scalar.ScalarOf.TheVariants as scalar_of
 
--- a scalar: an integer, a boolean, a text by its bytes, a day of the calendar, or a civil time with its offset
+-- a scalar: an integer, a boolean, a string by its bytes, a day of the calendar, or a civil time with its offset
 pub data Scal : Type 0 where
   integer : ℤ → Scal
   boolean : Bool → Scal
@@ -29,7 +29,7 @@ scal f (scalar_of.DateTime dt) = date_time dt
 abbrev pub boolean_text : Bool → List ℕ
 boolean_text b = if b then codes "true" else codes "false"
 
--- a number renders in decimal, a boolean as its word, a text as it is, a date and a date time in their printed form
+-- a number renders in decimal, a boolean as its word, a string as it is, a date and a date time in their printed form
 abbrev pub render_scalar : Scal → List ℕ
 render_scalar (integer n) = signed_decimal n
 render_scalar (boolean b) = boolean_text b
@@ -37,7 +37,7 @@ render_scalar (text bytes) = bytes
 render_scalar (date d) = date_text d
 render_scalar (date_time dt) = date_time_text dt
 
--- the source of a text is the text between double quotes, unescaped; the source of any other scalar is what it renders
+-- the source of a string is the text between double quotes, unescaped; the source of any other scalar is what it renders
 -- as
 abbrev pub source_scalar : Scal → List ℕ
 source_scalar (integer n) = signed_decimal n
@@ -63,11 +63,11 @@ abbrev pub is_whole_number : List ℕ → Bool
 is_whole_number bytes = nat_lt 0 (length (without_leading_sign bytes)) &&
     (all_ascii_digits (without_leading_sign bytes) && nat_le (digits_value 10 (without_leading_sign bytes)) (greatest_magnitude bytes))
 
--- the integer that a text writes, if it writes one
+-- the integer that a string writes, if it writes one
 abbrev pub whole_number_of_text : List ℕ → Option ℤ
 whole_number_of_text bytes = if is_whole_number bytes then Some (signed_digits_value 10 bytes) else None
 
--- a number is itself, a text is the integer that it writes, and the other kinds have no number
+-- a number is itself, a string is the integer that it writes, and the other kinds have no number
 abbrev pub to_integer : Scal → Option ℤ
 to_integer (integer n) = Some n
 to_integer (boolean b) = None

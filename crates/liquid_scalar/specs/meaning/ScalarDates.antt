@@ -6,7 +6,7 @@ use Rattle.liquid_dates.specs.meaning.Instant.{civil_date}
 use Rattle.liquid_dates.specs.meaning.DateText.{IsDateText, IsDateTimeText}
 use Rattle.liquid_scalar.specs.meaning.Scalar.{Scal, integer, boolean, text, date, date_time}
 
--- a date itself, a date time's own date, or the date that a text writes at the moment; another scalar has no date
+-- a date itself, a date time's own date, or the date that a string writes at the moment; another scalar has no date
 abbrev pub IsDateOf : Scal → DateTime → CivilDate → Type 0
 IsDateOf (integer n) moment d = ⊥
 IsDateOf (boolean b) moment d = ⊥
@@ -14,7 +14,7 @@ IsDateOf (text bytes) moment d = IsDateText bytes moment d
 IsDateOf (date e) moment d = d ≡ e
 IsDateOf (date_time dt) moment d = d ≡ civil_date dt
 
--- a date time itself, or the date time that a text writes at the moment; another scalar has no date time
+-- a date time itself, or the date time that a string writes at the moment; another scalar has no date time
 abbrev pub IsDateTimeOf : Scal → DateTime → DateTime → Type 0
 IsDateTimeOf (integer n) moment dt = ⊥
 IsDateTimeOf (boolean b) moment dt = ⊥

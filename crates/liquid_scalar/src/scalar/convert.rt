@@ -8,7 +8,7 @@ use std::alloc::{AllocError, Global};
 use std::borrow::CowStr;
 use std::convert::AsStr;
 
-/// A text of a scalar that can be passed on as a borrowed or owned text, without memory.
+/// The text of a scalar that can be passed on as a borrowed or owned string, without memory.
 pub trait ScalarText<'s>: AsStr + Drop {
     fn into_cow_str(self) -> CowStr<'s>
         ensures { cow_str_bytes result ≡ Self.text self };
@@ -33,7 +33,7 @@ impl<'s> ScalarText<'s> for &'s str {
 }
 
 impl<T> ScalarOf<T> {
-    /// Returns the text that the scalar renders as. A text is passed on as it is, borrowed or owned.
+    /// Returns the text that the scalar renders as. A string is passed on as it is, borrowed or owned.
     pub fn into_cow_str<'s>(self, alloc: Global) -> Result<CowStr<'s>, AllocError>
     where
         T: ScalarText<'s>,
@@ -49,7 +49,7 @@ impl<T> ScalarOf<T> {
         }
     }
 
-    /// Returns the text that the scalar renders as. An owned text is passed on as it is.
+    /// Returns the text that the scalar renders as. An owned string is passed on as it is.
     pub fn into_string<'s>(self, alloc: Global) -> Result<String, AllocError>
     where
         T: ScalarText<'s>,
@@ -58,7 +58,7 @@ impl<T> ScalarOf<T> {
         self.into_cow_str(alloc)?.into_owned(alloc)
     }
 
-    /// Returns the same scalar with an owned text. A borrowed text is copied.
+    /// Returns the same scalar with an owned string. A borrowed string is copied.
     pub fn into_owned<'s>(self, alloc: Global) -> Result<Scalar, AllocError>
     where
         T: ScalarText<'s>,

@@ -11,7 +11,7 @@ use liquid_dates::{Date, DateTime};
 use std::convert::AsStr;
 
 impl<T: AsStr> ScalarOf<T> {
-    /// Returns the date itself, a date time's own date, or the date that a text writes, where `today` is the date of
+    /// Returns the date itself, a date time's own date, or the date that a string writes, where `today` is the date of
     /// the moment. Returns `None` for every other scalar.
     pub fn to_date(&self, moment: DateTime) -> Option<Date>
         ensures fits { IfSome result (λ d. IsDateOf (scal T.text self.now) moment d) }
@@ -28,7 +28,7 @@ impl<T: AsStr> ScalarOf<T> {
             ScalarOf::DateTime(date_time) => Some(date_time.date()),
         }
     }
-    /// Returns the date time itself, or the date time that a text writes, where `now` and `today` are the moment.
+    /// Returns the date time itself, or the date time that a string writes, where `now` and `today` are the moment.
     /// Returns `None` for every other scalar.
     pub fn to_date_time(&self, moment: DateTime) -> Option<DateTime>
         ensures fits { IfSome result (λ dt. IsDateTimeOf (scal T.text self.now) moment dt) }

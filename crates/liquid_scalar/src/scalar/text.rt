@@ -37,7 +37,7 @@ impl<T: AsStr> ScalarOf<T> {
         }
     }
 
-    /// Returns the text that the scalar renders as. A text or a boolean is borrowed.
+    /// Returns the text that the scalar renders as. A string or a boolean is borrowed.
     pub fn to_kstr(&self, alloc: Global) -> Result<CowStr<'_>, AllocError>
         ensures { IfOk result (λ t. cow_str_bytes t ≡ render_scalar (scal T.text self.now)) }
     {
@@ -52,7 +52,7 @@ impl<T: AsStr> ScalarOf<T> {
     }
 }
 
-/// Prints what a scalar renders as: a number in decimal, `true` or `false`, a text as it is, and a date or a date time
+/// Prints what a scalar renders as: a number in decimal, `true` or `false`, a string as it is, and a date or a date time
 /// in its printed form.
 #[derive(Clone, Copy)]
 pub struct ScalarRender<'s, T> {
@@ -73,7 +73,7 @@ impl<T: AsStr> fmt::Display for ScalarRender<'_, T> {
     }
 }
 
-/// Prints the source of a scalar: a text between double quotes, unescaped, and any other scalar as it renders.
+/// Prints the source of a scalar: a string between double quotes, unescaped, and any other scalar as it renders.
 #[derive(Clone, Copy)]
 pub struct ScalarSource<'s, T> {
     pub scalar: &'s ScalarOf<T>,

@@ -1,4 +1,4 @@
--- A law of texts without tags.
+-- A law of strings without tags.
 use Rattle.std.specs.Prelude.{◌≡◌, ◌≢◌, ℕ, List, [], ◌∷◌}
 use Rattle.std.specs.List.{All}
 use Rattle.std.specs.Str.{byte}

@@ -1,4 +1,4 @@
--- Texts with their characters in another case.
+-- Strings with their characters in another case.
 use Rattle.std.specs.Prelude.{ℕ, List, [], ◌∷◌, ◌++◌, chars, encode_utf8_all, flat_map}
 use Rattle.std.specs.Char.Unicode.ToLowercase.{to_lowercase}
 use Rattle.std.specs.Char.Unicode.ToUppercase.{to_uppercase}

@@ -1,4 +1,4 @@
--- Texts that are escaped for HTML.
+-- Strings that are escaped for HTML.
 use Rattle.std.specs.Prelude.{ℕ, Bool, false, List, [], ◌∷◌, ◌++◌, ◌==◌, ◌&&◌}
 use Rattle.std.specs.Prelude.{Option, Some, None, codes, flat_map, length, nat_lt, slice_index, unwrap_or, if◌then◌else◌}
 use Rattle.std.specs.Char.{is_ascii_alphabetic, is_ascii_digit}

@@ -20,6 +20,6 @@ sliced_at (Some start) n xs = take n (drop start xs)
 abbrev pub sliced : {X : Type 0} → ℤ → ℤ → List X → List X
 sliced start count xs = sliced_at (start_in (length xs) start) (count_in count) xs
 
--- the same for the characters of a text
+-- the same for the characters of a string
 abbrev pub sliced_text : ℤ → ℤ → List ℕ → List ℕ
 sliced_text start count text = encode_utf8_all (sliced start count (chars text))

@@ -1,4 +1,4 @@
--- A text split into parts.
+-- A string split into parts.
 use Rattle.std.specs.Prelude.{ℕ, List, [], ◌∷◌, ◌==◌, ◌&&◌, chars, codes}
 use Rattle.std.specs.Prelude.{cond, encode_utf8, encode_utf8_all, filter, length, map, nat_lt, if◌then◌else◌}
 use Rattle.std.specs.List.{slice_split}

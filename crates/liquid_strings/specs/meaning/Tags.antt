@@ -4,7 +4,7 @@ use Rattle.std.specs.Prelude.{Option, Some, None, codes, drop, length, nat_eq, o
 use Rattle.std.specs.List.{starts_with}
 use Rattle.memchr.specs.Find.{first_of, matches}
 
--- the length of the part with which a text begins: an opener, and everything up to the first closer after it and that
+-- the length of the part with which a string begins: an opener, and everything up to the first closer after it and that
 -- closer
 abbrev pub part_len : List ℕ → List ℕ → List ℕ → Option ℕ
 part_len opener closer text =
@@ -32,14 +32,14 @@ abbrev pub then_passed : Option ℕ → ℕ
 then_passed None = 0
 then_passed (Some n) = n - 1
 
--- after that many bytes that are left out, the text without its parts of these kinds, from left to right
+-- after that many bytes that are left out, the string without its parts of these kinds, from left to right
 abbrev pub without_after : List (List ℕ × List ℕ) → ℕ → List ℕ → List ℕ
 without_after kinds n [] = []
 without_after kinds zero (b ∷ bs) =
     byte_kept (first_part kinds (b ∷ bs)) b ++ without_after kinds (then_passed (first_part kinds (b ∷ bs))) bs
 without_after kinds (suc n) (b ∷ bs) = without_after kinds n bs
 
--- the text without its parts of these kinds
+-- the string without its parts of these kinds
 abbrev pub without : List (List ℕ × List ℕ) → List ℕ → List ℕ
 without kinds text = without_after kinds 0 text
 
@@ -51,6 +51,6 @@ blocks = (codes "<script", codes "</script>") ∷ (codes "<!--", codes "-->") �
 abbrev pub tags : List (List ℕ × List ℕ)
 tags = (codes "<", codes ">") ∷ []
 
--- the text without blocks, and then without tags
+-- the string without blocks, and then without tags
 abbrev pub stripped : List ℕ → List ℕ
 stripped text = without tags (without blocks text)

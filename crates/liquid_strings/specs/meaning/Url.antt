@@ -1,4 +1,4 @@
--- Texts in URLs.
+-- Strings in URLs.
 use Rattle.std.specs.Prelude.{ℕ, Bool, ◌==◌, ◌||◌, List, [], ◌∷◌, Option, codes, flat_map, if◌then◌else◌}
 use Rattle.std.specs.Char.{is_ascii_alphanumeric}
 use Rattle.std.specs.Str.{byte}
@@ -18,6 +18,6 @@ url_byte b = if stays_in_url b then b ∷ [] else if b == byte " " then codes "+
 abbrev pub url_encoded : List ℕ → List ℕ
 url_encoded text = flat_map url_byte text
 
--- the text with a space for each plus sign, and then the byte of each escape, if those bytes are a text
+-- the string with a space for each plus sign, and then the byte of each escape, if those bytes are a string
 abbrev pub url_decoded : List ℕ → Option (List ℕ)
 url_decoded text = text_of_bytes (percent_decode (replaced (codes "+") (codes " ") text))

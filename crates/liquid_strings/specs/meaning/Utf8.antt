@@ -1,4 +1,4 @@
--- Bytes as a text.
+-- Bytes as a string.
 use Rattle.std.specs.Prelude.{ℕ, List, Option, Some, None, cond}
 use Rattle.std.specs.Str.{is_utf8}
 

@@ -1,4 +1,4 @@
--- Kinds of parts that are left out of a text.
+-- Kinds of parts that are left out of a string.
 use Rattle.std.specs.Prelude.{ℕ, ◌<◌, List, length}
 use Rattle.memchr.specs.Find.{OccursAt}
 use Rattle.liquid_strings.specs.declared.tags.Kind.{Kind}
@@ -7,7 +7,7 @@ use Rattle.liquid_strings.specs.declared.tags.Kind.{Kind}
 abbrev pub kind_of : Kind → List ℕ × List ℕ
 kind_of kind = (kind.opener.now, kind.closer.now)
 
--- neither is empty, and the closer begins nowhere in the text from its end on
+-- neither is empty, and the closer begins nowhere in the string from its end on
 pub record FitsText (text : List ℕ) (kind : Kind) : Type 0 where
   pub opens : 0 < length kind.opener.now
   pub closes : 0 < length kind.closer.now

@@ -43,8 +43,8 @@ LooseEqualityIsReflexive = (t : Tree) → without_truthy t ≡ true → value_eq
 abbrev pub LooseEqualityIsSymmetric : Type 0
 LooseEqualityIsSymmetric = (l r : Tree) → without_truthy l ≡ true → without_truthy r ≡ true → value_eq l r ≡ value_eq r l
 
--- loose equality is not transitive: the empty text and the state `Empty` are equal, that state and the empty array are
--- equal, and the empty text and the empty array are not
+-- loose equality is not transitive: the empty string and the state `Empty` are equal, that state and the empty array are
+-- equal, and the empty string and the empty array are not
 abbrev pub LooseEqualityIsNotTransitive : Type 0
 LooseEqualityIsNotTransitive = (value_eq (scalar (text [])) (state Empty) ≡ true) × (value_eq (state Empty) (array no_items) ≡ true)
     × (value_eq (scalar (text [])) (array no_items) ≡ false)

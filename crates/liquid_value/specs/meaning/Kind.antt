@@ -45,7 +45,7 @@ container_state is_empty DefaultValue = is_empty
 container_state is_empty Empty = is_empty
 container_state is_empty Blank = is_empty
 
--- a text is truthy, default and empty if it has no bytes, and blank if it has nothing but whitespace
+-- a string is truthy, default and empty if it has no bytes, and blank if it has nothing but whitespace
 abbrev pub text_state : List ℕ → State → Bool
 text_state t Truthy = true
 text_state t DefaultValue = length t == 0

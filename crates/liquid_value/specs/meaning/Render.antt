@@ -36,7 +36,7 @@ abbrev pub listed_members : Members → List ℕ
 listed_members no_members = []
 listed_members (member key t ms) = listed_member key t ++ listed_members ms
 
--- the source text: for a state and for nil, the name of the type; for a text, that text in double quotes
+-- the source text: for a state and for nil, the name of the type; for a string, that text in double quotes
 abbrev pub source : Tree → List ℕ
 source nil = type_name nil
 source (state s) = type_name (state s)

@@ -8,7 +8,7 @@ use Rattle.filter_dates.proofs.moments.text_at.Goals as goal
 pub returns-in-Some-clause-fits : goal.returns-in-Some-clause-fits
 returns-in-Some-clause-fits c = inl c.in-Some.ensures.fits
 
--- a text that is no plain one
+-- a string that is no plain one
 other : (text : List ℕ) (now dt : DateTime) → ((e : DateTime) → ¬ (IsPlainTextAt now text e)) → IsTextAt now text dt → IsMomentInText text dt
 other text now dt none (inl is) = absurd (none dt is)
 other text now dt none (inr (_, is)) = is

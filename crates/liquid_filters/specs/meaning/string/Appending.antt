@@ -1,4 +1,4 @@
--- What filters that join two texts return.
+-- What filters that join two strings return.
 use Rattle.std.specs.Prelude.{List, [], ◌∷◌, ◌++◌, Result, Ok, Err}
 use Rattle.liquid_error.specs.meaning.Refusal.{Refusal}
 use Rattle.liquid_value.specs.meaning.Render.{render}

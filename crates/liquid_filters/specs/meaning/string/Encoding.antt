@@ -1,4 +1,4 @@
--- What filters that encode and decode a text return.
+-- What filters that encode and decode a string return.
 use Rattle.std.specs.Prelude.{ℕ, List, Option, Some, None, Result, Ok, Err}
 use Rattle.base64.specs.declared.decode.DecodeError.{DecodeError}
 use Rattle.base64.specs.Engines.{standard, url_safe}
@@ -11,7 +11,7 @@ use Rattle.liquid_strings.specs.meaning.Utf8.{text_of_bytes}
 use Rattle.liquid_filters.specs.meaning.value.Errors.{decoded_no_text, invalid_base64}
 use Rattle.liquid_filters.specs.meaning.string.Written.{written}
 
--- a text that was decoded, if the bytes are one
+-- a string that was decoded, if the bytes are one
 abbrev pub decoded_text : Option (List ℕ) → Result Tree Refusal
 decoded_text (Some text) = Ok (written text)
 decoded_text None = Err decoded_no_text
@@ -30,7 +30,7 @@ url_decoded input = decoded_text (url.url_decoded (render input))
 abbrev pub base64_encoded : Tree → Tree
 base64_encoded input = written (encode_of standard (render input))
 
--- bytes that were decoded, as a text, if there are any
+-- bytes that were decoded, as a string, if there are any
 abbrev pub decoded_bytes : Result (List ℕ) DecodeError → Result Tree Refusal
 decoded_bytes (Ok bytes) = decoded_text (text_of_bytes bytes)
 decoded_bytes (Err e) = Err invalid_base64

@@ -10,7 +10,7 @@ abbrev pub html_escaped : Tree → Tree
 html_escaped nil = nil
 html_escaped input = written (escaped (render input))
 
--- the text with entities too, except for ampersands that begin one; nil has the empty text
+-- the text with entities too, except for ampersands that begin one; nil has the empty string
 abbrev pub html_escaped_once : Tree → Tree
 html_escaped_once input = written (escaped_once (render input))
 

@@ -1,4 +1,4 @@
--- What filters that replace or remove parts of a text return.
+-- What filters that replace or remove parts of a string return.
 use Rattle.std.specs.Prelude.{List, [], ◌∷◌, Result, Ok, Err}
 use Rattle.liquid_error.specs.meaning.Refusal.{Refusal}
 use Rattle.liquid_value.specs.meaning.Render.{render}

@@ -1,4 +1,4 @@
--- What the filter that splits a text returns.
+-- What the filter that splits a string returns.
 use Rattle.std.specs.Prelude.{ℕ, List, [], ◌∷◌, map, Result, Ok, Err}
 use Rattle.liquid_error.specs.meaning.Refusal.{Refusal}
 use Rattle.liquid_value.specs.meaning.Render.{render}

@@ -1,4 +1,4 @@
--- What filters that cut whitespace off the ends of a text return.
+-- What filters that cut whitespace off the ends of a string return.
 use Rattle.std.specs.Str.{trim, trim_start, trim_end}
 use Rattle.liquid_value.specs.meaning.Render.{render}
 use Rattle.liquid_value.specs.meaning.Tree.{Tree}

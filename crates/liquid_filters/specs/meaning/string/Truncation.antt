@@ -1,4 +1,4 @@
--- What filters that cut a text or an array return.
+-- What filters that cut a string or an array return.
 use Rattle.std.specs.Prelude.{ℕ, ℤ, pos, List, [], ◌∷◌, codes, Result, Ok, Err}
 use Rattle.liquid_error.specs.meaning.Refusal.{Refusal, ok_then}
 use Rattle.liquid_value.specs.meaning.Render.{render}

@@ -1,4 +1,4 @@
--- A text as a value.
+-- A string as a value.
 use Rattle.std.specs.Prelude.{ℕ, List}
 use Rattle.liquid_scalar.specs.meaning.Scalar.{text}
 use Rattle.liquid_value.specs.meaning.Tree.{Tree, scalar}

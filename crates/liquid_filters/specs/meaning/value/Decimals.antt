@@ -9,7 +9,7 @@ use Rattle.liquid_value.specs.meaning.Tree.{Tree, scalar}
 use Rattle.liquid_filters.specs.meaning.value.Errors.{past_limit, whole_number_expected}
 use Rattle.liquid_filters.specs.meaning.value.Numbers.{number_of}
 
--- the decimal that a text writes
+-- the decimal that a string writes
 abbrev pub scalar_decimal : Scal → Option Dec
 scalar_decimal (text t) = decimal_of_text t
 scalar_decimal other = None

@@ -41,7 +41,7 @@ abbrev pub without_order : Tree → Tree → Refusal
 without_order first second =
     with_context (codes "second") (source second) (with_context (codes "first") (source first) (plain (codes "Values without an order")))
 
--- a text that is not the base64 of any bytes
+-- a string that is not the base64 of any bytes
 abbrev pub invalid_base64 : Refusal
 invalid_base64 = plain (codes "Invalid base64")
 

@@ -7,7 +7,7 @@ use Rattle.liquid_scalar.specs.meaning.Scalar.{Scal, integer, text, to_integer, 
 use Rattle.liquid_value.specs.meaning.Tree.{Tree, nil, scalar}
 use Rattle.liquid_filters.specs.meaning.value.Errors.{past_limit, whole_number_expected}
 
--- the number of a scalar: a number itself, or what a text writes between whitespace
+-- the number of a scalar: a number itself, or what a string writes between whitespace
 abbrev pub scalar_number : Scal → Option ℤ
 scalar_number (text t) = whole_number_of_text (trim t)
 scalar_number other = to_integer other

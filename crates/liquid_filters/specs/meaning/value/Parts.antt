@@ -24,7 +24,7 @@ property name other = Err (object_expected name other)
 abbrev pub truthy : Tree → Bool
 truthy t = query_state t Truthy
 
--- the number of entries of an array or an object, or of characters of a text
+-- the number of entries of an array or an object, or of characters of a string
 abbrev pub size_of : Tree → ℕ
 size_of (array ts) = item_count ts
 size_of (object ms) = member_count ms

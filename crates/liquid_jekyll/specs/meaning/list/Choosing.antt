@@ -51,7 +51,7 @@ abbrev pub has_no_member : Members → Bool
 has_no_member no_members = true
 has_no_member (member name t ms) = false
 
--- whether a key is without text: nil, an empty text, an array whose text is empty, an object without members
+-- whether a key is without text: nil, an empty string, an array whose text is empty, an object without members
 abbrev pub is_hollow : Tree → Bool
 is_hollow (state s) = false
 is_hollow (object ms) = has_no_member ms

@@ -36,12 +36,12 @@ has_dot path = list_any (λ b. b == byte ".") path
 abbrev pub attribute : List ℕ → Tree → Result Tree Refusal
 attribute path item = if has_dot path then walked (split (codes ".") path) item else property path item
 
--- the integer that a text writes without a plus sign
+-- the integer that a string writes without a plus sign
 abbrev pub unsigned_number : List ℕ → Option ℤ
 unsigned_number [] = whole_number_of_text []
 unsigned_number (b ∷ bs) = if b == byte "+" then None else whole_number_of_text (b ∷ bs)
 
--- the number that a text writes between whitespace
+-- the number that a string writes between whitespace
 abbrev pub number_of_scalar : Scal → Option ℤ
 number_of_scalar (text t) = unsigned_number (stripped t)
 number_of_scalar other = None

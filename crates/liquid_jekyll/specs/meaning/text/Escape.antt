@@ -1,4 +1,4 @@
--- Texts that are escaped for XML.
+-- Strings that are escaped for XML.
 use Rattle.std.specs.Prelude.{ℕ, List, [], ◌∷◌, ◌==◌, Option, Some, None, codes, flat_map, unwrap_or, if◌then◌else◌}
 use Rattle.std.specs.Str.{byte}
 

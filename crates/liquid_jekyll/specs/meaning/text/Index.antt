@@ -9,7 +9,7 @@ abbrev pub ends_line : List ℕ → Bool
 ends_line [] = true
 ends_line (b ∷ bs) = b == byte "\n"
 
--- the length of the name of an index page with which a text begins, if it ends a line
+-- the length of the name of an index page with which a string begins, if it ends a line
 abbrev pub index_length : List ℕ → Option ℕ
 index_length text =
     if starts_with nat_eq text (codes "/index.html") && ends_line (drop 11 text) then Some 11

@@ -1,4 +1,4 @@
--- Integers at the start of a text.
+-- Integers at the start of a string.
 use Rattle.std.specs.Prelude.{ℕ, ◌+◌, Bool, ◌==◌, ◌&&◌, ◌||◌, nat_le, cond, List, [], ◌∷◌, drop, take}
 use Rattle.std.specs.List.{prefix_len}
 use Rattle.std.specs.Str.{byte}
@@ -16,7 +16,7 @@ sign_length (b ∷ bs) = cond (b == byte "-" || b == byte "+") 1 0
 abbrev pub digit_count : List ℕ → ℕ
 digit_count text = prefix_len is_digit (drop (sign_length text) text)
 
--- the sign and the digits with which a text begins; nothing without a digit
+-- the sign and the digits with which a string begins; nothing without a digit
 abbrev pub numeral_at : List ℕ → List ℕ
 numeral_at text = cond (digit_count text == 0) [] (take (sign_length text + digit_count text) text)
 

@@ -73,7 +73,7 @@ closes_after c = not (list_any (λ mark. mark == c) (codes " \\\t\r\n[{(-"))
 abbrev pub ends_word : ℕ → ℕ → Bool
 ends_word c d = is_space c || (c == byte "s" && not (is_word d))
 
--- the mark of a text in which one of the first two characters is a quote, where no two quotes open together
+-- the mark of a string in which one of the first two characters is a quote, where no two quotes open together
 abbrev pub single_mark : List ℕ → Mark
 single_mark text =
     if is_space (at text 0) && is_decade (at text 1) (at text 2) (at text 3) (at text 4) then ThenClosing

@@ -1,4 +1,4 @@
--- Whitespace at the ends of a text.
+-- Whitespace at the ends of a string.
 use Rattle.std.specs.Prelude.{ℕ, ◌-◌, List, drop, length, reverse, take}
 use Rattle.std.specs.List.{prefix_len}
 use Rattle.liquid_jekyll.specs.meaning.text.CharacterSets.{is_space}

@@ -39,11 +39,11 @@ use Rattle.liquid_jekyll.specs.declared.text.quotes.Mark.TheVariants.{
 use Rattle.liquid_jekyll.specs.meaning.text.Quotes.{at, is_quote, more, quote_mark}
 use Rattle.liquid_jekyll.specs.meaning.text.Runs.{without_last}
 
--- whether a text begins with two characters
+-- whether a string begins with two characters
 abbrev pub begins : List ℕ → ℕ → ℕ → Bool
 begins text c d = at text 0 == c && at text 1 == d
 
--- what stands at the start of a text
+-- what stands at the start of a string
 abbrev pub mark_at : List ℕ → Mark
 mark_at text =
     if is_quote (at text 0) || is_quote (at text 1) then quote_mark text
@@ -67,7 +67,7 @@ both_opening first second = opening first ∷ opening second ∷ []
 abbrev pub plain : ℕ → List ℕ
 plain c = if c == byte ">" then codes "&gt;" else c ∷ []
 
--- the characters that a mark at the start of a text is written as: those of the text, `—`, `–`, `…`, `»`, and a no-break space
+-- the characters that a mark at the start of a string is written as: those of the text, `—`, `–`, `…`, `»`, and a no-break space
 abbrev pub mark_text : Mark → List ℕ → List ℕ
 mark_text Plain text = plain (at text 0)
 mark_text Opening text = opening (at text 0) ∷ []
@@ -82,7 +82,7 @@ mark_text Ellipsis text = 8230 ∷ []
 mark_text Guillemet text = 187 ∷ []
 mark_text SpacedGuillemet text = 160 ∷ 187 ∷ []
 
--- what is written at the start of a text of which that many characters are taken already, and how many are taken after the first
+-- what is written at the start of a string of which that many characters are taken already, and how many are taken after the first
 abbrev pub written_at : ℕ → List ℕ → List ℕ
 written_at taken text = if nat_lt 0 taken then [] else mark_text (mark_at text) text
 
@@ -94,7 +94,7 @@ abbrev pub smart : ℕ → List ℕ → List ℕ
 smart taken [] = []
 smart taken (c ∷ cs) = written_at taken (c ∷ cs) ++ smart (taken_after taken (c ∷ cs)) cs
 
--- a text that needs a reader of HTML
+-- a string that needs a reader of HTML
 abbrev pub has_markup : List ℕ → Bool
 has_markup text = list_any (λ b. list_any (λ mark. mark == b) (codes "<&\\\r")) text
 

@@ -1,4 +1,4 @@
--- A text before and after a mark.
+-- A string before and after a mark.
 use Rattle.std.specs.Prelude.{ℕ, ◌+◌, List, Option, Some, None, drop, length, take}
 use Rattle.memchr.specs.Find.{first_of, matches, rmatches}
 

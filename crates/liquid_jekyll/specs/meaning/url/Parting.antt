@@ -16,7 +16,7 @@ pub record UrlForm : Type 0 where
 abbrev pub is_inside : ℕ → Bool
 is_inside b = not (b == byte "/")
 
--- whether a text before a colon is a scheme
+-- whether a string before a colon is a scheme
 abbrev pub is_scheme : List ℕ → Bool
 is_scheme text = nat_lt 0 (length text) && list_all is_inside text
 

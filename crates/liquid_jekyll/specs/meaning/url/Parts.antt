@@ -30,7 +30,7 @@ escaped_byte part b = if keeps part b then b ∷ [] else percent_encode_byte b
 abbrev pub escaped : UrlPart → List ℕ → List ℕ
 escaped part bytes = flat_map (escaped_byte part) bytes
 
--- bytes as a part of a URL: if they are a text, its normal form, escaped; otherwise they are escaped as in a whole URL
+-- bytes as a part of a URL: if they are a string, its normal form, escaped; otherwise they are escaped as in a whole URL
 abbrev pub cleaned_bytes : UrlPart → List ℕ → List ℕ
 cleaned_bytes part bytes =
     if is_utf8 bytes then escaped part (encode_utf8_all (nfkc (chars bytes))) else escaped Whole bytes

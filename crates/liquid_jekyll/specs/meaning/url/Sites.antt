@@ -8,7 +8,7 @@ use Rattle.liquid_jekyll.specs.meaning.url.Cuts.{cut}
 use Rattle.liquid_jekyll.specs.meaning.url.Normal.{normal_url}
 use Rattle.liquid_jekyll.specs.meaning.url.Parts.{is_of}
 
--- whether a text is the name of a scheme: a letter, and then letters, digits and `+-.`
+-- whether a string is the name of a scheme: a letter, and then letters, digits and `+-.`
 abbrev pub is_in_schemes : ℕ → Bool
 is_in_schemes b = is_ascii_alphanumeric b || is_of (codes "+-.") b
 
@@ -16,7 +16,7 @@ abbrev pub names_scheme : List ℕ → Bool
 names_scheme [] = false
 names_scheme (b ∷ bs) = is_ascii_alphabetic b && list_all is_in_schemes bs
 
--- whether a text has a scheme before its first colon
+-- whether a string has a scheme before its first colon
 abbrev pub is_scheme_cut : List ℕ × Option (List ℕ) → Bool
 is_scheme_cut (before, None) = false
 is_scheme_cut (before, Some rest) = names_scheme before
@@ -29,7 +29,7 @@ abbrev pub slashed : List ℕ → List ℕ
 slashed [] = []
 slashed (b ∷ bs) = if b == byte "/" then b ∷ bs else byte "/" ∷ b ∷ bs
 
--- a text as a path of the site, after the path that the site begins at; a text with a scheme stays
+-- a string as a path of the site, after the path that the site begins at; a string with a scheme stays
 abbrev pub relative_url : List ℕ → List ℕ → List ℕ
 relative_url base text = if has_scheme text then text else normal_url (slashed (without_last (byte "/") base) ++ slashed text)
 

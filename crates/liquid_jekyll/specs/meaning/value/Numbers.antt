@@ -7,7 +7,7 @@ use Rattle.liquid_filters.specs.meaning.value.Errors.{whole_number_expected}
 use Rattle.liquid_filters.specs.meaning.value.Numbers.{limited}
 use Rattle.liquid_jekyll.specs.meaning.text.Numerals.{numeral}
 
--- the number with which a text begins after whitespace; 0 without one, and nothing if it does not fit
+-- the number with which a string begins after whitespace; 0 without one, and nothing if it does not fit
 abbrev pub leading_integer : List ℕ → Option ℤ
 leading_integer text = if length (numeral text) == 0 then Some (pos 0) else whole_number_of_text (numeral text)
 

@@ -1,4 +1,4 @@
--- What Jekyll's filters on texts return.
+-- What Jekyll's filters on strings return.
 use Rattle.std.specs.Prelude.{ℕ, pos, List, [], ◌∷◌, Option, Some, None, Result, Ok, Err, codes, if◌then◌else◌}
 use Rattle.std.specs.Str.{bytes_eq}
 use Rattle.liquid_error.specs.meaning.Refusal.{Refusal}
@@ -32,16 +32,16 @@ abbrev pub uri_escaped : Tree → Tree
 uri_escaped nil = nil
 uri_escaped input = written (cleaned Whole (render input))
 
--- a text, or nil in place of the empty one
+-- a string, or nil in place of the empty one
 abbrev pub written_or_nil : List ℕ → Tree
 written_or_nil [] = nil
 written_or_nil (b ∷ bs) = written (index.index_stripped (b ∷ bs))
 
--- the text without the name of an index page; nil for the empty text
+-- the text without the name of an index page; nil for the empty string
 abbrev pub index_stripped : Tree → Tree
 index_stripped input = written_or_nil (render input)
 
--- the mode of a slug that a text names
+-- the mode of a slug that a string names
 abbrev pub slug_mode : List ℕ → Option SlugMode
 slug_mode name =
     if bytes_eq name (codes "default") then Some Default
