@@ -19,7 +19,7 @@ pub enum SlugMode {
     Pretty,
     /// Letters and digits of ASCII.
     Ascii,
-    /// The same, after Latin letters have become letters of ASCII.
+    /// Letters and digits of ASCII, after Latin letters have become letters of ASCII.
     Latin,
 }
 
