@@ -1,6 +1,6 @@
 -- How the pairs of an inclusion are read, pair by pair.
 use Rattle.std.proofs.Common.{◌≡◌, ℕ, List, [], ◌∷◌, ◌++◌, Option, None, Some, Result, Ok, Err}
-use Rattle.std.proofs.Common.{refl, sym, ap, subst, ◌∙◌, append_assoc}
+use Rattle.std.proofs.Common.{refl, sym, ap, subst, ◌∙◌}
 use Rattle.std.specs.Prelude.{IfSome}
 use Rattle.std.proofs.lemmas.List.{append-nil}
 use Rattle.liquid_error.specs.declared.place.Place.{Place}
@@ -11,6 +11,7 @@ use Rattle.liquid_plugins.specs.meaning.Expression.{ExpressionShape}
 use Rattle.liquid_tags.specs.meaning.Asked.{next_as}
 use Rattle.liquid_tags.specs.meaning.Partials.{Pair}
 use Rattle.jekyll_tags.specs.meaning.Given.{expect_sign, from_sign, from_value, pair_given, pairs_from}
+use Rattle.liquid_tags.proofs.PairLemmas.{joined}
 
 abbrev following : Token → List Token → Tokens
 following t more = record { following = t.following; left = more }
@@ -73,11 +74,6 @@ none_left (t ∷ more) e = cc
 -- the pairs that were read, and those that the tokens after them make
 abbrev pub read_on : List Pair → List Token → Result (List Pair) Refusal
 read_on done ts = ok_then (pairs_from ts) (λ qs. Ok (done ++ qs))
-
-joined : (done : List Pair) (pair : Pair) (r : Result (List Pair) Refusal)
-    → ok_then (ok_then r (λ qs. Ok (pair ∷ qs))) (λ qs. Ok (done ++ qs)) ≡ ok_then r (λ qs. Ok ((done ++ pair ∷ []) ++ qs))
-joined done pair (Ok qs) = ap (λ ps. Ok ps) (sym (append_assoc done (pair ∷ []) qs))
-joined done pair (Err refusal) = refl
 
 pub nothing_read : (r : Result (List Pair) Refusal) → r ≡ ok_then r (λ qs. Ok ([] ++ qs))
 nothing_read (Ok qs) = refl

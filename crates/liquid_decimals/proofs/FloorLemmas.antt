@@ -10,7 +10,7 @@ use Rattle.liquid_decimals.specs.meaning.Arithmetic.{floor_remainder}
 pub euclid_rest : (x : ℤ) (d : ℕ) → 0 < d → int_rem_euclid x (pos d) ≡ x -ℤ pos d *ℤ int_div_euclid x (pos d)
 euclid_rest x d h = grind (arith, ints)
 
-flipped : (a q r : ℤ) (b : ℕ) → r ≡ neg_ℤ a -ℤ pos (suc b) *ℤ q → neg_ℤ r ≡ a -ℤ negsuc b *ℤ q
+pub flipped : (a q r : ℤ) (b : ℕ) → r ≡ neg_ℤ a -ℤ pos (suc b) *ℤ q → neg_ℤ r ≡ a -ℤ negsuc b *ℤ q
 flipped a q r b e = omega (arith, ints)
 
 -- by a divisor below 0, the remainder is that of the two numbers negated, negated

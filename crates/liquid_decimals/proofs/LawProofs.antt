@@ -64,7 +64,7 @@ pub negated_times : (n q : ℕ) → neg_ℤ (pos n) *ℤ pos q ≡ neg_ℤ (pos 
 negated_times zero q = rw (zero-mul q) refl
 negated_times (suc n) q = refl
 
-scaled_twice : (m : ℤ) (p q : ℕ) → m *ℤ pos p *ℤ pos q ≡ m *ℤ pos (p * q)
+pub scaled_twice : (m : ℤ) (p q : ℕ) → m *ℤ pos p *ℤ pos q ≡ m *ℤ pos (p * q)
 scaled_twice (pos a) p q = ap pos (mul_assoc a p q)
 scaled_twice (negsuc a) p q = negated_times (suc a * p) q ∙ ap (λ n. neg_ℤ (pos n)) (mul_assoc (suc a) p q)
 

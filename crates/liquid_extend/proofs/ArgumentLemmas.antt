@@ -7,12 +7,9 @@ use Rattle.liquid_error.specs.declared.place.Place.{Place}
 use Rattle.liquid_error.specs.meaning.Refusal.{Refusal, located, ok_then}
 use Rattle.liquid_plugins.specs.meaning.ArgumentsOf.{Arguments}
 use Rattle.liquid_plugins.specs.meaning.Expression.{ExpressionShape}
-use Rattle.liquid_parser.specs.declared.cursor.token.TagToken.{TagToken}
-use Rattle.liquid_parser.specs.declared.cursor.token.TryMatchToken.{TryMatchToken}
-use Rattle.liquid_parser.specs.declared.cursor.token.TryMatchToken.TheVariants.{Matches, Fails}
-use Rattle.liquid_parser.specs.meaning.Cursors.{FailedToken, IsToken, Tries, matched_of, next_as}
+use Rattle.liquid_parser.specs.meaning.Cursors.{next_as}
 use Rattle.liquid_parser.specs.meaning.Handed.{Token, Tokens, expect_identifier, expect_next, expect_value, first_of, no_arguments}
-use Rattle.liquid_parser.specs.meaning.Handed.{or_unexpected, unexpected}
+use Rattle.liquid_parser.specs.meaning.Handed.{or_unexpected}
 use Rattle.liquid_parser.proofs.StepLemmas.{then_refused}
 use Rattle.liquid_extend.specs.meaning.Arguments.{Argument, positional, named, argument_due, argument_from, arguments_from, before}
 use Rattle.liquid_extend.specs.meaning.Arguments.{expect_colon, is_colon, is_comma, is_positional, token_expected, value_due, with_argument}
@@ -20,27 +17,6 @@ use Rattle.liquid_extend.specs.steps.Reading.{added, argument_given, first_token
 
 abbrev following : Token → List Token → Tokens
 following t more = record { following = t.following; left = more }
-
--- a token is what is expected of it, or is refused
-pub token_taken : {A M : Type 0} (of : A → M) (expect : Token → Option M) (t : Token) (token : TagToken) (attempt : TryMatchToken A) (x : A)
-    → IsToken token t → Tries of token attempt (expect t)
-    → ((u : Token) → FailedToken attempt u → or_unexpected u (matched_of attempt) ≡ Ok x) → or_unexpected t (expect t) ≡ Ok (of x)
-token_taken of expect t token (Matches y) x is tries gives = ap (or_unexpected t) tries ∙ ap (λ q. ok_then q (λ a. Ok (of a))) (gives t tt)
-token_taken of expect t token (Fails u) x is tries gives =
-    let e : Err (unexpected t) ≡ Ok x = gives t (subst (λ k. IsToken k t) (sym tries.1) is) in
-    cc
-
-pub token_refused : {A M : Type 0} (of : A → M) (expect : Token → Option M) (t : Token) (token : TagToken) (attempt : TryMatchToken A)
-    (o : Option Refusal) → IsToken token t → Tries of token attempt (expect t)
-    → ((u : Token) → FailedToken attempt u → IfSome o (λ r. or_unexpected u (matched_of attempt) ≡ Err r))
-    → IfSome o (λ r. or_unexpected t (expect t) ≡ Err r)
-token_refused of expect t token (Matches y) None is tries gives = gives t tt
-token_refused of expect t token (Matches y) (Some r) is tries gives =
-    let e : Ok y ≡ Err r = gives t tt in
-    cc
-token_refused of expect t token (Fails u) None is tries gives = gives t (subst (λ k. IsToken k t) (sym tries.1) is)
-token_refused of expect t token (Fails u) (Some r) is tries gives =
-    ap (or_unexpected t) tries.0 ∙ ap (λ q. ok_then q (λ a. Ok (of a))) (gives t (subst (λ k. IsToken k t) (sym tries.1) is))
 
 -- a token that is a comma, and one that is none
 abbrev pub first_by : Token → Tokens → Bool → Result (Token × Tokens) Refusal

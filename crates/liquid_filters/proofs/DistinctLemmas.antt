@@ -90,7 +90,7 @@ unseen-new keys more k e es moved key new =
     ∙ ap (λ l. e ∷ l) (filter-both _ _ _ (λ other. ap not (seen_now other.0) ∙ neither (same_value e.0 other.0) (is_seen keys other.0))
     (distinct es))
 
-unseen-none : (es : List (Tree × Tree)) → unseen [] es ≡ es
+pub unseen-none : (es : List (Tree × Tree)) → unseen [] es ≡ es
 unseen-none [] = refl
 unseen-none (e ∷ es) = ap (λ l. e ∷ l) (unseen-none es)
 
@@ -115,7 +115,3 @@ pub kept-old : (kept : List Tree) (keys more : List (Bor Value)) (e : Tree × Tr
     ++ items_in (unseen more (distinct es)) ≡ all
 kept-old kept keys more e es all same seen so_far =
     ap (λ l. kept ++ items_in (unseen l (distinct es))) same ∙ ap (λ l. kept ++ items_in l) (sym (unseen-old keys e es seen)) ∙ so_far
-
-pub not-false : (b : Bool) → not b ≡ false → b ≡ true
-not-false true h = refl
-not-false false h = cc

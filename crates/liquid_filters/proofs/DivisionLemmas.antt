@@ -1,16 +1,11 @@
 -- The remainder of a division that rounds down.
-use Rattle.std.proofs.Common.{◌≡◌, ℕ, ℤ, pos, negsuc, suc, ◌<◌, ◌-ℤ◌, ◌*ℤ◌, true, ap, ◌∙◌, arith}
+use Rattle.std.proofs.Common.{◌≡◌, ℕ, ℤ, pos, negsuc, suc, ◌-ℤ◌, true, ap, ◌∙◌, arith}
 use Rattle.std.specs.Prelude.{neg_ℤ}
 use Rattle.std.specs.Int.Signed.{lt_z}
-use Rattle.std.specs.Int.{int_div_euclid, int_rem_euclid}
+use Rattle.std.specs.Int.{int_rem_euclid}
 use Rattle.std.proofs.lemmas.Int.{ints}
 use Rattle.liquid_filters.specs.meaning.number.Division.{floor_remainder}
-
-pub euclid_rest : (x : ℤ) (d : ℕ) → 0 < d → int_rem_euclid x (pos d) ≡ x -ℤ pos d *ℤ int_div_euclid x (pos d)
-euclid_rest x d h = grind (arith, ints)
-
-flipped : (a q r : ℤ) (b : ℕ) → r ≡ neg_ℤ a -ℤ pos (suc b) *ℤ q → neg_ℤ r ≡ a -ℤ negsuc b *ℤ q
-flipped a q r b e = omega (arith, ints)
+use Rattle.liquid_decimals.proofs.FloorLemmas.{euclid_rest, flipped}
 
 -- by a divisor below 0, the remainder is that of the two numbers negated, negated
 pub floor_remainder-below : (a : ℤ) (b : ℕ) → neg_ℤ (int_rem_euclid (neg_ℤ a) (pos (suc b))) ≡ floor_remainder a (negsuc b)

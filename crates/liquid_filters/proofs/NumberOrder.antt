@@ -1,30 +1,5 @@
 -- The order of numbers is total: that of their mantissas at one scale.
-use Rattle.std.proofs.Common.{
-  ◌≡◌,
-  ℕ,
-  ℤ,
-  pos,
-  negsuc,
-  suc,
-  ◌+◌,
-  ◌-◌,
-  ◌*◌,
-  ◌*ℤ◌,
-  ◌^◌,
-  ◌<◌,
-  ◌≤◌,
-  ◌<ℤ◌,
-  neg_ℤ,
-  Option,
-  Some,
-  None,
-  refl,
-  sym,
-  ap,
-  ◌∙◌,
-  subst,
-  arith,
-}
+use Rattle.std.proofs.Common.{◌≡◌, ℕ, ℤ, pos, negsuc, suc, ◌+◌, ◌-◌, ◌*◌, ◌*ℤ◌, ◌^◌, ◌<◌, ◌≤◌, ◌<ℤ◌, Option, Some, None, refl, sym, ap, ◌∙◌, subst, arith}
 use Rattle.std.specs.declared.cmp.Ordering.{Ordering}
 use Rattle.std.specs.declared.cmp.Ordering.TheVariants.{Less, Equal, Greater}
 use Rattle.std.specs.Option.{option_map}
@@ -36,13 +11,9 @@ use Rattle.std.proofs.lemmas.Int.{ints}
 use Rattle.liquid_decimals.specs.declared.decimal.Decimal.{Decimal}
 use Rattle.liquid_decimals.specs.meaning.Arithmetic.{compare, mantissa_at}
 use Rattle.liquid_decimals.specs.meaning.Dec.{Dec, dec}
-use Rattle.liquid_decimals.proofs.LawProofs.{negated_times}
+use Rattle.liquid_decimals.proofs.LawProofs.{scaled_twice}
 use Rattle.liquid_decimals.proofs.Tens.{product_above_0, tens_above_0}
 use Rattle.liquid_filters.specs.meaning.sort.Numbers.{number_cmp}
-
-times_twice : (m : ℤ) (p q : ℕ) → m *ℤ pos p *ℤ pos q ≡ m *ℤ pos (p * q)
-times_twice (pos a) p q = ap pos (mul_assoc a p q)
-times_twice (negsuc a) p q = negated_times (suc a * p) q ∙ ap (λ n. neg_ℤ (pos n)) (mul_assoc (suc a) p q)
 
 -- a positive factor does not change an order
 scaled_lt : (x y : ℤ) (k : ℕ) → 0 < k → x <ℤ y → (x *ℤ pos k) <ℤ (y *ℤ pos k)
@@ -91,7 +62,7 @@ both_swapped s t = mul_comm (10 ^ (18 - s)) (10 ^ (18 - t))
 -- a side of a comparison, multiplied with these powers
 side : (m : ℤ) (s t : ℕ) → t ≤ 18 → m *ℤ pos (10 ^ t) *ℤ pos (both s t) ≡ m *ℤ pos (10 ^ (18 - s)) *ℤ pos (10 ^ 18)
 side m s t h =
-    times_twice m (10 ^ t) (both s t) ∙ ap (λ p. m *ℤ pos p) (sym (powers s t h)) ∙ sym (times_twice m (10 ^ (18 - s)) (10 ^ 18))
+    scaled_twice m (10 ^ t) (both s t) ∙ ap (λ p. m *ℤ pos p) (sym (powers s t h)) ∙ sym (scaled_twice m (10 ^ (18 - s)) (10 ^ 18))
 
 compare-is : (a b : Dec) → a.1 ≤ 18 → b.1 ≤ 18 → compare a b ≡ int_cmp (mantissa_at 18 a) (mantissa_at 18 b)
 compare-is a b h g =

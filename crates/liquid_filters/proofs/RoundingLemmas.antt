@@ -24,7 +24,7 @@ use Rattle.std.proofs.Common.{
 }
 use Rattle.std.specs.Prelude.{neg_ℤ}
 use Rattle.std.specs.Int.Signed.{lt_z}
-use Rattle.std.proofs.Math.Nat.{pow-le-pow_right, one-le-pow}
+use Rattle.std.proofs.Math.Nat.{pow-le-pow_right}
 use Rattle.std.proofs.lemmas.Bool.Decides.{nat_tests}
 use Rattle.liquid_decimals.specs.meaning.Dec.{Dec}
 use Rattle.liquid_decimals.specs.meaning.Rounding.{round}
@@ -32,9 +32,6 @@ use Rattle.liquid_filters.specs.meaning.value.Decimals.{is_whole}
 use Rattle.liquid_filters.specs.meaning.value.Numbers.{fits, limited}
 use Rattle.liquid_filters.specs.meaning.number.Filters.{rounded_number}
 use Rattle.liquid_filters.specs.meaning.number.Rounding.{nearest_multiple, rounded, rounded_to}
-
-pub power_above_0 : (k : ℕ) → 0 < 10 ^ k
-power_above_0 k = omega (arith, one-le-pow k 10 (omega arith))
 
 -- the multiple nearest to a magnitude below half the unit is 0
 nearest_multiple-none : (unit m : ℕ) → 2 * m + 1 < unit → nearest_multiple unit m ≡ 0

@@ -3,15 +3,12 @@ use Rattle.std.proofs.Common.{◌≡◌, ℕ, ℤ, List, [], ◌∷◌, Option, 
 use Rattle.std.specs.List.{take-map, drop-map, AllZip}
 use Rattle.std.proofs.lemmas.List.{length-map}
 use Rattle.liquid_value.specs.declared.value.Value.{Value}
-use Rattle.liquid_value.specs.meaning.Tree.{Tree, item}
+use Rattle.liquid_value.specs.meaning.Tree.{item}
 use Rattle.liquid_value.specs.meaning.View.{view, items_of, items_view}
 use Rattle.liquid_strings.specs.meaning.Slices.{count_in, sliced, sliced_at, start_in}
 use Rattle.liquid_filters.specs.meaning.string.Written.{written}
 use Rattle.liquid_filters.specs.meaning.value.Items.{own_items}
-
-own_items_of : (ts : List Tree) → own_items (items_of ts) ≡ ts
-own_items_of [] = refl
-own_items_of (t ∷ ts) = ap (λ rest. t ∷ rest) (own_items_of ts)
+use Rattle.liquid_filters.proofs.OwnItems.{own_items_of}
 
 mapped_at : (o : Option ℕ) (n : ℕ) (xs : List Value) → sliced_at o n (map view xs) ≡ map view (sliced_at o n xs)
 mapped_at None n xs = refl

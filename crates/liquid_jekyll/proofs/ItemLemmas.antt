@@ -1,18 +1,15 @@
 -- Items of an array as trees.
-use Rattle.std.proofs.Common.{◌≡◌, ℕ, ◌-◌, ◌≤◌, List, [], ◌∷◌, map, length, take, drop, refl, sym, ap, ◌∙◌, arith}
+use Rattle.std.proofs.Common.{◌≡◌, ℕ, ◌-◌, ◌≤◌, List, [], map, length, take, drop, sym, ap, ◌∙◌, arith}
 use Rattle.std.specs.List.{drop-map, take-map}
 use Rattle.std.proofs.lemmas.List.{drop_all, length-drop, length-map, take_all}
 use Rattle.liquid_value.specs.declared.value.Value.{Value}
 use Rattle.liquid_value.specs.meaning.Tree.{Tree}
-use Rattle.liquid_value.specs.meaning.View.{view, items_of, items_view}
+use Rattle.liquid_value.specs.meaning.View.{view, items_view}
 use Rattle.liquid_filters.specs.meaning.value.Items.{own_items}
 use Rattle.liquid_jekyll.specs.declared.value.lists.End.{End}
 use Rattle.liquid_jekyll.specs.declared.value.lists.End.TheVariants.{First, Last}
 use Rattle.liquid_jekyll.specs.meaning.value.Lists.{without}
-
-own_items_of : (ts : List Tree) → own_items (items_of ts) ≡ ts
-own_items_of [] = refl
-own_items_of (t ∷ ts) = ap (λ rest. t ∷ rest) (own_items_of ts)
+use Rattle.liquid_filters.proofs.OwnItems.{own_items_of}
 
 -- what is left of the items is what is left of their meanings
 pub items_cut : (end : End) (n : ℕ) (xs : List Value) → without end n (own_items (items_view xs)) ≡ without end n (map view xs)

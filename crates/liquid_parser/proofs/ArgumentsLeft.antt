@@ -13,6 +13,7 @@ use Rattle.liquid_plugins.specs.meaning.ExpressionOf.{expression_of}
 use Rattle.liquid_plugins.specs.declared.expression.Expression.{Expression}
 use Rattle.liquid_parser.specs.meaning.Handed.{arguments_meant, with_argument, expression_meant}
 use Rattle.liquid_parser.proofs.Indexes.{first_none}
+use Rattle.std.proofs.lemmas.List.{append-nil}
 
 -- arguments in front of others
 abbrev pub join : Arguments → Arguments → Arguments
@@ -33,10 +34,6 @@ join_last a (Some name) v b =
     ap (λ k. record { positional = a.positional ++ b.positional; keyword = k }) (push_join a.keyword (name, expression_meant v) b.keyword)
 join_last a None v b =
     ap (λ p. record { positional = p; keyword = a.keyword ++ b.keyword }) (push_join a.positional (expression_meant v) b.positional)
-
-append_none : {A : Type 0} (xs : List A) → xs ++ [] ≡ xs
-append_none [] = refl
-append_none (x ∷ xs) = ap (λ ys. x ∷ ys) (append_none xs)
 
 pub record Left (first : Bool) (s rest : List ℕ) (built meant : Arguments) (whole : Option Fault) : Type 0 where
   pub arguments : List Argument
@@ -89,8 +86,8 @@ pub left_none : (first : Bool) (s rest : List ℕ) (built meant : Arguments) (wh
 left_none first s rest built meant whole left n = (
   left.fault ∙ ap (first_fault argument_fault) n.none,
   sym (left.joined ∙ (ap (λ given. join built (arguments_meant given)) n.none
-      ∙ (ap (λ p. record { positional = p; keyword = built.keyword ++ [] }) (append_none built.positional)
-      ∙ ap (λ k. record { positional = built.positional; keyword = k }) (append_none built.keyword)))),
+      ∙ (ap (λ p. record { positional = p; keyword = built.keyword ++ [] }) (append-nil built.positional)
+      ∙ ap (λ k. record { positional = built.positional; keyword = k }) (append-nil built.keyword)))),
 )
 
 -- a keyword argument in the program

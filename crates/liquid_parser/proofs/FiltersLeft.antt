@@ -17,6 +17,7 @@ use Rattle.liquid_parser.specs.meaning.Handed.{arguments_meant, place_in, slice_
 use Rattle.liquid_parser.specs.meaning.Reading.{filters_read, filter_or, filter_refused, refusal_of_filter}
 use Rattle.liquid_parser.proofs.Slices.{front_ends}
 use Rattle.liquid_parser.proofs.Indexes.{first_none}
+use Rattle.std.proofs.lemmas.List.{append-nil}
 
 -- filters after others
 abbrev pub after_all : {F : Type 0} → List F → Result (List F) Refusal → Result (List F) Refusal
@@ -34,10 +35,6 @@ after_push xs x (Err e) = refl
 after_none : {F : Type 0} (r : Result (List F) Refusal) → after_all [] r ≡ r
 after_none (Ok ys) = refl
 after_none (Err e) = refl
-
-append_none : {A : Type 0} (xs : List A) → xs ++ [] ≡ xs
-append_none [] = refl
-append_none (x ∷ xs) = ap (λ ys. x ∷ ys) (append_none xs)
 
 -- the first of these filters is between its places
 pub filter_here : (s rest : List ℕ) (f : token.Filter) (fs : List token.Filter) → Repeated (Following 124 FilterRule) s rest (f ∷ fs)
@@ -100,7 +97,7 @@ module _ {F : Type 0} (filters : Filters F) (source : List ℕ) where
       → (left : Left s rest made meant whole) → NoneLeft s rest left.filters_left → (whole ≡ None) × (meant ≡ Ok made)
   left_none s rest made meant whole left n = (
     left.fault ∙ ap (first_fault filter_fault) n.none,
-    left.joined ∙ (ap (λ fs. after_all made (filters_read filters source fs)) n.none ∙ ap (λ xs. Ok xs) (append_none made)),
+    left.joined ∙ (ap (λ fs. after_all made (filters_read filters source fs)) n.none ∙ ap (λ xs. Ok xs) (append-nil made)),
   )
 
   -- what a filter makes from its arguments

@@ -13,25 +13,25 @@ use Rattle.liquid_parser.specs.meaning.Handed.{Token, Tokens, expect_next, or_un
 use Rattle.liquid_parser.proofs.StepLemmas.{then_refused}
 
 -- the token is what was expected of it
-value_taken : {A M : Type 0} (of : A → M) (expect : Token → Option M) (t : Token) (token : TagToken) (attempt : TryMatchToken A) (x : A)
+pub token_taken : {A M : Type 0} (of : A → M) (expect : Token → Option M) (t : Token) (token : TagToken) (attempt : TryMatchToken A) (x : A)
     → IsToken token t → Tries of token attempt (expect t)
     → ((u : Token) → FailedToken attempt u → or_unexpected u (matched_of attempt) ≡ Ok x) → or_unexpected t (expect t) ≡ Ok (of x)
-value_taken of expect t token (Matches y) x is tries gives = ap (or_unexpected t) tries ∙ ap (λ q. ok_then q (λ a. Ok (of a))) (gives t tt)
-value_taken of expect t token (Fails u) x is tries gives =
+token_taken of expect t token (Matches y) x is tries gives = ap (or_unexpected t) tries ∙ ap (λ q. ok_then q (λ a. Ok (of a))) (gives t tt)
+token_taken of expect t token (Fails u) x is tries gives =
     let e : Err (unexpected t) ≡ Ok x = gives t (subst (λ k. IsToken k t) (sym tries.1) is) in
     cc
 
 -- the token is refused
-value_refused : {A M : Type 0} (of : A → M) (expect : Token → Option M) (t : Token) (token : TagToken) (attempt : TryMatchToken A)
+pub token_refused : {A M : Type 0} (of : A → M) (expect : Token → Option M) (t : Token) (token : TagToken) (attempt : TryMatchToken A)
     (o : Option Refusal) → IsToken token t → Tries of token attempt (expect t)
     → ((u : Token) → FailedToken attempt u → IfSome o (λ r. or_unexpected u (matched_of attempt) ≡ Err r))
     → IfSome o (λ r. or_unexpected t (expect t) ≡ Err r)
-value_refused of expect t token (Matches y) None is tries gives = gives t tt
-value_refused of expect t token (Matches y) (Some r) is tries gives =
+token_refused of expect t token (Matches y) None is tries gives = gives t tt
+token_refused of expect t token (Matches y) (Some r) is tries gives =
     let e : Ok y ≡ Err r = gives t tt in
     cc
-value_refused of expect t token (Fails u) None is tries gives = gives t (subst (λ k. IsToken k t) (sym tries.1) is)
-value_refused of expect t token (Fails u) (Some r) is tries gives =
+token_refused of expect t token (Fails u) None is tries gives = gives t (subst (λ k. IsToken k t) (sym tries.1) is)
+token_refused of expect t token (Fails u) (Some r) is tries gives =
     ap (or_unexpected t) tries.0 ∙ ap (λ q. ok_then q (λ a. Ok (of a))) (gives t (subst (λ k. IsToken k t) (sym tries.1) is))
 
 module _ {A M : Type 0} (of : A → M) (expect : Token → Option M) (message : List ℕ) (ts : Tokens) where
@@ -44,7 +44,7 @@ module _ {A M : Type 0} (of : A → M) (expect : Token → Option M) (message : 
   next_taken token cursor attempt x h tries gives = (
     h.0.1,
     ap (λ q. ok_then q (λ given. ok_then (or_unexpected given.0 (expect given.0)) (λ y. Ok (y, given.1)))) h.1
-        ∙ ap (λ q. ok_then q (λ y. Ok (y, h.0.1))) (value_taken of expect h.0.0 token attempt x h.2.token_is
+        ∙ ap (λ q. ok_then q (λ y. Ok (y, h.0.1))) (token_taken of expect h.0.0 token attempt x h.2.token_is
         (tries h.0.0 h.2.token_is) gives),
     h.2.left,
   )
@@ -59,7 +59,7 @@ module _ {A M : Type 0} (of : A → M) (expect : Token → Option M) (message : 
       subst (λ q. IfSome o (λ r. ok_then {B = M × Tokens} q (λ given. ok_then {B = M × Tokens} (or_unexpected given.0 (expect given.0))
       (λ y. Ok (y, given.1))) ≡ Err r)) (sym h.1)
       (then_refused {B = M × Tokens} o (or_unexpected h.0.0 (expect h.0.0)) (λ y. Ok (y, h.0.1))
-      (value_refused of expect h.0.0 token attempt o h.2.token_is (tries h.0.0 h.2.token_is) gives))
+      (token_refused of expect h.0.0 token attempt o h.2.token_is (tries h.0.0 h.2.token_is) gives))
 
   -- the result of an attempt to read the next token is what was meant
   pub next_given : (token : TagToken) (cursor : TagTokenIter) (attempt : TryMatchToken A) (r : Result A Error)

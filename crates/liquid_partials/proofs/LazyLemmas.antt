@@ -191,10 +191,6 @@ length_map : {X Y : Type 0} (f : X → Y) (xs : List X) → length (map f xs) �
 length_map f [] = refl
 length_map f (x ∷ xs) = ap (λ n. suc n) (length_map f xs)
 
-pub none_left : {X : Type 0} (xs : List X) → length xs ≡ 0 → xs ≡ []
-none_left [] e = refl
-none_left (x ∷ xs) e = absurd (omega arith)
-
 module _ {X Y : Type 0} where
   alike : (o : Option X) (p : Option Y) → is_some o ≡ is_some p → option_map (λ _. tt {0}) o ≡ option_map (λ _. tt {0}) p
   alike None None e = refl

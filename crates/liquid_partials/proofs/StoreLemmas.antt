@@ -1,6 +1,6 @@
 -- What a store finds, by its source and its language, and what it returns for a request.
 use Rattle.std.proofs.Common.{◌≡◌, ℕ, Bool, true, false, List, Option, Some, None, is_some, Result, Ok, Err, refl, ap, sym, ◌∙◌, subst}
-use Rattle.std.specs.Prelude.{option_map, option_and_then, IfOk, IfSome}
+use Rattle.std.specs.Prelude.{option_map, option_and_then, IfOk}
 use Rattle.std.specs.FinMap.{get, keys}
 use Rattle.liquid_error.specs.meaning.Refusal.{Refusal, ok_then}
 use Rattle.liquid_grammar.proofs.CoverLemmas.{cover_of}
@@ -22,10 +22,6 @@ IsTrueBool false = ⊥
 pub if_ok : {A E : Type 0} {P Q : A → Type 0} (r : Result A E) → ((x : A) → P x → Q x) → IfOk r P → IfOk r Q
 if_ok (Ok x) f h = f x h
 if_ok (Err e) f h = tt
-
-pub if_some : {A : Type 0} {P Q : A → Type 0} (o : Option A) → ((x : A) → P x → Q x) → IfSome o P → IfSome o Q
-if_some None f h = tt
-if_some (Some x) f h = f x h
 
 module _ {F T P B : Type 0} (l : Lang F T P B) where
   pub reading_reads : (text : List ℕ) → Reads l text (reading l text)

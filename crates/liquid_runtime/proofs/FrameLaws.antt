@@ -12,16 +12,13 @@ use Rattle.liquid_runtime.specs.meaning.View.{View}
 use Rattle.liquid_runtime.specs.meaning.NamesSeen.{lookup, upper_names, floor_names, names_seen, is_sealed, comes_from_seal}
 use Rattle.liquid_runtime.specs.meaning.Frames.{begin_stack, begin_sandboxed}
 use Rattle.liquid_runtime.specs.steps.FrameViews.{assigned_view}
+use Rattle.std.proofs.Math.Bool.{and-true}
 
 none_of_two : (sealed : Bool) (a b : Option Tree) → sealed && is_none (option_or a b) ≡ is_none a && (sealed && is_none b)
 none_of_two true None b = refl
 none_of_two true (Some t) b = refl
 none_of_two false None b = refl
 none_of_two false (Some t) b = refl
-
-and_true : (b : Bool) → (b && true) ≡ b
-and_true true = refl
-and_true false = refl
 
 module _ {Reg : Type 0} where
   upper_stack : (names : Names) (name : Option (List ℕ)) (v : View Reg)
@@ -77,7 +74,7 @@ module _ {Reg : Type 0} where
       → comes_from_seal (assigned_view assigned (begin_sandboxed fresh names name v)) q ≡ is_none (get assigned q)
   seal_isolated assigned fresh names name v q =
       seal_global assigned (begin_sandboxed fresh names name v) q ∙ ap (λ b. is_none (get assigned q) && b)
-      (seal_sandboxed fresh names name v q) ∙ and_true (is_none (get assigned q))
+      (seal_sandboxed fresh names name v q) ∙ and-true (is_none (get assigned q))
 
 -- what an implementation of a frame needs
 pub ruleset frame_laws = (lookup_stack, lookup_global, lookup_sandboxed, seal_stack, seal_global, seal_sandboxed)

@@ -1,5 +1,5 @@
 -- What the calls of frames return.
-use Rattle.std.proofs.Common.{◌≡◌, ℕ, List, Bool, true, false, ◌&&◌, Option, None, Some, refl, sym, ap, ◌∙◌}
+use Rattle.std.proofs.Common.{◌≡◌, ℕ, List, Bool, false, ◌&&◌, Option, None, Some, refl, sym, ap, ◌∙◌}
 use Rattle.std.specs.Prelude.{Result, Ok, Err, IfOk, String, string_bytes, is_none, is_some, ◌||◌}
 use Rattle.std.specs.Option.{option_or}
 use Rattle.std.specs.Ordering.{nat_cmp, is_eq}
@@ -28,6 +28,7 @@ use Rattle.liquid_runtime.proofs.FrameLaws.{
   seal_sandboxed,
 }
 use Rattle.liquid_runtime.proofs.Objects.{changed_objects}
+use Rattle.std.proofs.Math.Bool.{or-false}
 
 abbrev pub no_names : Names
 no_names = empty
@@ -48,10 +49,6 @@ pub or_none : (a : Option Tree) → option_or a None ≡ a
 or_none None = refl
 or_none (Some x) = refl
 
-or_false : (b : Bool) → (b || false) ≡ b
-or_false true = refl
-or_false false = refl
-
 pub seal_own : (a : Option Tree) (b : Bool) (x : Tree) → Some x ≡ a → (is_none a && b) ≡ false
 seal_own a b x e = ap (λ o. is_none o && b) (sym e)
 
@@ -60,12 +57,12 @@ seal_below a b e = ap (λ o. is_none o && b) (sym e)
 
 pub ruleset own_first = (own_value, value_below, seal_own, seal_below)
 
-some-either : (a b : Option Tree) → (is_some a || is_some b) ≡ is_some (option_or a b)
+pub some-either : (a b : Option Tree) → (is_some a || is_some b) ≡ is_some (option_or a b)
 some-either None b = refl
 some-either (Some x) b = refl
 
 pub names_alone : (m : Names) (below set : BTreeSet (String Global)) → NamesOver m below set → IsEmpty below → NamesOf m set
-names_alone m below set is none q = is q ∙ ap (λ ks. is_some (get m q) || list_any (at_name q) ks) none ∙ or_false (is_some (get m q))
+names_alone m below set is none q = is q ∙ ap (λ ks. is_some (get m q) || list_any (at_name q) ks) none ∙ or-false (is_some (get m q))
 
 pub if_ok : {A E : Type 0} (o : Result A E) (P Q : A → Type 0) → ((x : A) → P x → Q x) → IfOk o P → IfOk o Q
 if_ok (Ok x) P Q f h = f x h
@@ -114,7 +111,7 @@ module _ {Reg : Type 0} where
   pub roots_sandboxed : (r : Registers Reg) (names : Names) (name : Option (List ℕ)) (v : View Reg) (below set : BTreeSet (String Global))
       → NamesOver names below set → IsEmpty below → NamesOf (names_seen (sandboxed_with r names name v)) set
   roots_sandboxed r names name v below set is none q =
-      is q ∙ ap (λ ks. is_some (get names q) || list_any (at_name q) ks) none ∙ or_false (is_some (get names q))
+      is q ∙ ap (λ ks. is_some (get names q) || list_any (at_name q) ks) none ∙ or-false (is_some (get names q))
       ∙ ap is_some (sym (lookup_sandboxed r.value names name v q))
 
   pub roots_isolated : (assigned : Names) (fresh : Reg) (names : Names) (name : Option (List ℕ)) (v : View Reg)

@@ -57,6 +57,7 @@ use Rattle.liquid_runtime.specs.meaning.Maps.{Names}
 use Rattle.liquid_scopes.proofs.LayerLaws.{set_put}
 use Rattle.liquid_scopes.proofs.TwoLooks.{suc_eq, suc_not_zero, zero_not_suc, has_at-push, nothing_after}
 use Rattle.liquid_scopes.proofs.IndexLaws.{undone, same_text}
+use Rattle.std.proofs.Math.Bool.{and-false}
 
 pub or_nothing : (b : Bool) → b ≡ (b || false)
 or_nothing true = refl
@@ -88,15 +89,7 @@ put_name m k q t =
 
 same_place : (b : Bool) (j n : ℕ) → nat_eq j n ≡ b → (P : ℕ → Bool) → P n ≡ false → (P j && b) ≡ false
 same_place true j n e P h = let k : j ≡ n = grind (arith, nat_tests) in ap (λ i. P i && true) k ∙ ap (λ b. b && true) h
-same_place false j n e P h = and_no (P j)
-  where
-    and_no : (b : Bool) → (b && false) ≡ false
-    and_no true = refl
-    and_no false = refl
-
-and_no : (b : Bool) → (b && false) ≡ false
-and_no true = refl
-and_no false = refl
+same_place false j n e P h = and-false (P j)
 
 -- one more place, which is not listed
 over_new : (A o e : Bool) → (A && e) ≡ false → A ≡ ((A || (o && e)) && not e)

@@ -19,18 +19,11 @@ use Rattle.liquid_runtime.proofs.Objects.{has_name}
 use Rattle.liquid_scopes.specs.declared.frames.Frames.{Frames}
 use Rattle.liquid_scopes.specs.steps.NamePlaces.{is_place}
 use Rattle.liquid_scopes.specs.steps.Standing.{Places, stands, is_among}
+use Rattle.std.proofs.Math.Bool.{and-true, or-false}
 
 pub or_same : (b : Bool) → (b || b) ≡ b
 or_same true = refl
 or_same false = refl
-
-pub or_false : (b : Bool) → (b || false) ≡ b
-or_false true = refl
-or_false false = refl
-
-pub and_true : (b : Bool) → (b && true) ≡ b
-and_true true = refl
-and_true false = refl
 
 pub among_changed : (b : Bool) (new : Frames) (old : Option Frames) (j : ℕ)
     → is_among (cond b (Some new) old) j ≡ cond b (is_place new.last new.earlier j) (is_among old j)
@@ -57,12 +50,12 @@ add_split : (b : Bool) (w v : Frames) (old : Option Frames) (j : ℕ) (e : Bool)
     → is_place w.last w.earlier j ≡ (is_place v.last v.earlier j || e)
     → cond b (is_place w.last w.earlier j) (is_among old j) ≡ (is_among old j || (b && e))
 add_split true w v old j e h is = is ∙ ap (λ o. is_among o j || e) (sym (h refl))
-add_split false w v old j e h is = sym (or_false (is_among old j))
+add_split false w v old j e h is = sym (or-false (is_among old j))
 
 new_split : (b : Bool) (w : Frames) (old : Option Frames) (j : ℕ) (e : Bool) → (b ≡ true → old ≡ None) → is_place w.last w.earlier j ≡ e
     → cond b (is_place w.last w.earlier j) (is_among old j) ≡ (is_among old j || (b && e))
 new_split true w old j e h is = is ∙ ap (λ o. is_among o j || e) (sym (h refl))
-new_split false w old j e h is = sym (or_false (is_among old j))
+new_split false w old j e h is = sym (or-false (is_among old j))
 
 same_split : (b : Bool) (w v : Frames) (old : Option Frames) (j : ℕ) → (b ≡ true → old ≡ Some v)
     → is_place w.last w.earlier j ≡ is_place v.last v.earlier j → cond b (is_place w.last w.earlier j) (is_among old j) ≡ is_among old j
@@ -73,7 +66,7 @@ drop_split : (b : Bool) (w v : Frames) (old : Option Frames) (j : ℕ) (e : Bool
     → is_place w.last w.earlier j ≡ (is_place v.last v.earlier j && not e)
     → cond b (is_place w.last w.earlier j) (is_among old j) ≡ (is_among old j && not (b && e))
 drop_split true w v old j e h is = is ∙ ap (λ o. is_among o j && not e) (sym (h refl))
-drop_split false w v old j e h is = sym (and_true (is_among old j))
+drop_split false w v old j e h is = sym (and-true (is_among old j))
 
 at_same : (m : Places) (bs q : List ℕ) (o : Option Frames) → o ≡ get_by_text m bs → bytes_eq bs q ≡ true → get_by_text m q ≡ o
 at_same m bs q o is e = ap (get_by_text m) (sym (same_text bs q e)) ∙ sym is
@@ -169,14 +162,14 @@ and_twice false e = refl
 -- names of one object that are forgotten after those of another
 pub both_forgotten : {A : Type 0} (x y z e : Bool) (a b : Option A) → y ≡ (x && not (is_some b && e)) → z ≡ (y && not (is_some a && e))
     → z ≡ (x && not (is_some (option_or a b) && e))
-both_forgotten x y z e None b h k = k ∙ and_true y ∙ h
-both_forgotten x y z e (Some v) None h k = k ∙ ap (λ w. w && not e) (h ∙ and_true x)
+both_forgotten x y z e None b h k = k ∙ and-true y ∙ h
+both_forgotten x y z e (Some v) None h k = k ∙ ap (λ w. w && not e) (h ∙ and-true x)
 both_forgotten x y z e (Some v) (Some u) h k = k ∙ ap (λ w. w && not e) h ∙ and_twice x (not e)
 
 -- names of one object that are noted in part after those of another
 pub both_partly : {A : Type 0} (x y z e : Bool) (a b : Option A) → (y || (is_some b && e)) ≡ (x || (is_some b && e))
     → (z || (is_some a && e)) ≡ (y || (is_some a && e))
     → (z || (is_some (option_or a b) && e)) ≡ (x || (is_some (option_or a b) && e))
-both_partly x y z e None b h k = ap (λ w. w || (is_some b && e)) (sym (or_false z) ∙ k ∙ or_false y) ∙ h
-both_partly x y z e (Some v) None h k = k ∙ ap (λ w. w || e) (sym (or_false y) ∙ h ∙ or_false x)
+both_partly x y z e None b h k = ap (λ w. w || (is_some b && e)) (sym (or-false z) ∙ k ∙ or-false y) ∙ h
+both_partly x y z e (Some v) None h k = k ∙ ap (λ w. w || e) (sym (or-false y) ∙ h ∙ or-false x)
 both_partly x y z e (Some v) (Some u) h k = k ∙ h

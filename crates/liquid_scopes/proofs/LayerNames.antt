@@ -1,9 +1,7 @@
 -- The names that are seen in a layer.
-use Rattle.std.proofs.Common.{◌≡◌, Option, None, Some, refl, ap, sym, ◌∙◌}
+use Rattle.std.proofs.Common.{ap, sym, ◌∙◌}
 use Rattle.std.specs.Prelude.{String, is_some, ◌||◌}
-use Rattle.std.specs.Option.{option_or}
 use Rattle.std.specs.FinMap.{get}
-use Rattle.liquid_value.specs.meaning.Tree.{Tree}
 use Rattle.liquid_runtime.specs.meaning.Maps.{Names, over}
 use Rattle.std.specs.BTreeSet.{BTreeSet, contains_text}
 use Rattle.std.specs.declared.alloc.Global.{Global}
@@ -11,7 +9,7 @@ use Rattle.liquid_runtime.specs.meaning.View.{View}
 use Rattle.liquid_runtime.specs.meaning.Roots.{NamesOf, NamesOver}
 use Rattle.liquid_runtime.specs.meaning.NamesSeen.{names_seen}
 use Rattle.liquid_runtime.proofs.FrameLaws.{lookup_sandboxed, lookup_isolated}
-use Rattle.liquid_runtime.proofs.FrameLookups.{roots_stack, roots_global}
+use Rattle.liquid_runtime.proofs.FrameLookups.{roots_stack, roots_global, some-either}
 use Rattle.liquid_runtime.proofs.MapLaws.{get-over}
 use Rattle.liquid_scopes.specs.steps.Layers.{
   Layer,
@@ -24,14 +22,10 @@ use Rattle.liquid_scopes.specs.steps.Layers.{
   LayerNames,
 }
 
-some_either : (a b : Option Tree) → (is_some a || is_some b) ≡ is_some (option_or a b)
-some_either None b = refl
-some_either (Some t) b = refl
-
 -- the names of two maps
 pub names_both : (g d : Names) (below set : BTreeSet (String Global)) → NamesOf d below → NamesOver g below set → NamesOf (over g d) set
 names_both g d below set of is =
-    λ q. is q ∙ ap (λ b. is_some (get g q) || b) (of q) ∙ some_either (get g q) (get d q) ∙ ap is_some (sym (get-over g d q))
+    λ q. is q ∙ ap (λ b. is_some (get g q) || b) (of q) ∙ some-either (get g q) (get d q) ∙ ap is_some (sym (get-over g d q))
 
 module _ {V Reg : Type 0} where
   pub roots_layer : (l : Layer V) (v : View Reg) (below set : BTreeSet (String Global)) → LayerNames l below set

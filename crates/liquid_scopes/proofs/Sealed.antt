@@ -50,7 +50,8 @@ use Rattle.liquid_scopes.specs.steps.NamePlaces.{TopOf, is_under}
 use Rattle.liquid_scopes.specs.steps.Standing.{own, has_at, listed_at, seen_over, sealed_by, seals_own, seals_at, is_sandboxed, last_seal}
 use Rattle.liquid_scopes.proofs.LayerLaws.{seal_layer}
 use Rattle.liquid_scopes.proofs.TwoLooks.{none_below, zero_below, suc_below, tail_top, none_after}
-use Rattle.liquid_scopes.proofs.Unlisted.{and_true, top_same, top_over, top_here, absent_top}
+use Rattle.liquid_scopes.proofs.Unlisted.{top_same, top_over, top_here, absent_top}
+use Rattle.std.proofs.Math.Bool.{and-true}
 
 hidden_by : (o : Option Tree) (b : Bool) → is_some o ≡ true → (is_none o && b) ≡ false
 hidden_by None b e = absurd (cc)
@@ -213,6 +214,6 @@ module _ {V Reg : Type 0} where
       → TopOf (listed_at ls U q) listed → comes_from_seal (shown_over v ls) q ≡ sealed_by listed (last_seal ls) (seals_at ls q)
       (comes_from_seal v q)
   sealed_unasked v ls q listed None O over is h =
-      by_top v ls q listed (top_same (listed_at ls None q) (has_at ls q) listed (λ j. and_true (has_at ls q j)) h)
+      by_top v ls q listed (top_same (listed_at ls None q) (has_at ls q) listed (λ j. and-true (has_at ls q j)) h)
   sealed_unasked v ls q listed (Some u) O over is h =
       unasked v ls q listed u (is_under u (last_seal ls)) (is_under u listed) refl refl (sym over ∙ is) h

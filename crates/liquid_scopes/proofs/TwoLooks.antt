@@ -45,6 +45,7 @@ use Rattle.liquid_scopes.specs.steps.Layers.{
 use Rattle.liquid_scopes.specs.steps.Standing.{two_looks, own, own_at, has_at, own_at_top, is_sandboxed, last_seal, found_over}
 use Rattle.liquid_scopes.specs.steps.NamePlaces.{TopOf}
 use Rattle.liquid_scopes.proofs.LayerLaws.{lookup_link}
+use Rattle.std.proofs.Math.Bool.{and-true, or-false, and-false}
 
 not_there : (o : Option Tree) → is_some o ≡ false → o ≡ None
 not_there None e = refl
@@ -93,18 +94,6 @@ zero_not_suc n = grind (arith, nat_tests)
 
 pub suc_eq : (i s : ℕ) → nat_eq (suc i) (suc s) ≡ nat_eq i s
 suc_eq i s = grind (arith, nat_tests)
-
-and_true : (b : Bool) → (b && true) ≡ b
-and_true true = refl
-and_true false = refl
-
-and_false : (b : Bool) → (b && false) ≡ false
-and_false true = refl
-and_false false = refl
-
-or_false : (b : Bool) → (b || false) ≡ b
-or_false true = refl
-or_false false = refl
 
 is_below : (p s : ℕ) → p < s → nat_lt p s ≡ true
 is_below p s h = grind (arith, nat_tests)
@@ -173,11 +162,11 @@ module _ {V : Type 0} where
   -- the names of the list with one more layer
   pub has_at-push : (ls : List (Layer V)) (l : Layer V) (q : List ℕ) (j : ℕ)
       → has_at (ls ++ l ∷ []) q j ≡ (has_at ls q j || (is_some (own l q) && nat_eq j (length ls)))
-  has_at-push [] l q zero = sym (and_true (is_some (own l q)))
-  has_at-push [] l q (suc j) = sym (ap (λ b. is_some (own l q) && b) (suc_not_zero j) ∙ and_false (is_some (own l q)))
+  has_at-push [] l q zero = sym (and-true (is_some (own l q)))
+  has_at-push [] l q (suc j) = sym (ap (λ b. is_some (own l q) && b) (suc_not_zero j) ∙ and-false (is_some (own l q)))
   has_at-push (m ∷ ls) l q zero =
       sym (ap (λ b. is_some (own m q) || (is_some (own l q) && b)) (zero_not_suc (length ls))
-      ∙ ap (λ b. is_some (own m q) || b) (and_false (is_some (own l q))) ∙ or_false (is_some (own m q)))
+      ∙ ap (λ b. is_some (own m q) || b) (and-false (is_some (own l q))) ∙ or-false (is_some (own m q)))
   has_at-push (m ∷ ls) l q (suc j) = has_at-push ls l q j ∙ ap (λ b. has_at ls q j || (is_some (own l q) && b)) (sym (suc_eq j (length ls)))
 
   pub nothing_after : (ls : List (Layer V)) (q : List ℕ) → has_at ls q (length ls) ≡ false

@@ -10,26 +10,19 @@ use Rattle.liquid_scopes.specs.steps.Layers.{Layer, shown_over}
 use Rattle.liquid_scopes.specs.steps.NamePlaces.{TopOf, is_at, is_under}
 use Rattle.liquid_scopes.specs.steps.Standing.{two_looks, own_at, has_at, listed_at, seen_over, own_at_top, last_seal}
 use Rattle.liquid_scopes.proofs.TwoLooks.{sought}
-
-pub and_true : (b : Bool) → (b && true) ≡ b
-and_true true = refl
-and_true false = refl
-
-and_false : (b : Bool) → (b && false) ≡ false
-and_false true = refl
-and_false false = refl
+use Rattle.std.proofs.Math.Bool.{and-true, and-false}
 
 later : (i j : ℕ) → i < j → nat_eq j i ≡ false
 later i j h = grind (arith, nat_tests)
 
 -- a place other than the unlisted one
 other : (P : ℕ → Bool) (i j : ℕ) → i < j → (P j && not (nat_eq j i)) ≡ P j
-other P i j h = ap (λ b. P j && not b) (later i j h) ∙ and_true (P j)
+other P i j h = ap (λ b. P j && not b) (later i j h) ∙ and-true (P j)
 
 -- an unlisted place that doesn't pass
 pub absent : (P : ℕ → Bool) (i j : ℕ) (b : Bool) → nat_eq j i ≡ b → P i ≡ false → (P j && not b) ≡ P j
-absent P i j true e h = let k : j ≡ i = grind (arith, nat_tests) in and_false (P j) ∙ sym (ap P k ∙ h)
-absent P i j false e h = and_true (P j)
+absent P i j true e h = let k : j ≡ i = grind (arith, nat_tests) in and-false (P j) ∙ sym (ap P k ∙ h)
+absent P i j false e h = and-true (P j)
 
 pub top_same : (P Q : ℕ → Bool) (top : Option ℕ) → ((j : ℕ) → P j ≡ Q j) → TopOf P top → TopOf Q top
 top_same P Q None e h = λ j. sym (e j) ∙ h j
@@ -139,6 +132,6 @@ module _ {V Reg : Type 0} where
       → TopOf (listed_at ls U q) listed → S ≡ last_seal ls → w ≡ two_looks listed S (own_at_top listed ls q) (lookup v q)
       → w ≡ lookup (shown_over v ls) q
   no_unlisted v ls q listed S None O w over is h s e =
-      at_listed v ls q listed S w (top_same (listed_at ls None q) (has_at ls q) listed (λ j. and_true (has_at ls q j)) h) s e
+      at_listed v ls q listed S w (top_same (listed_at ls None q) (has_at ls q) listed (λ j. and-true (has_at ls q j)) h) s e
   no_unlisted v ls q listed S (Some u) O w over is h s e =
       unseen v ls q listed S u (is_under u S) (is_under u listed) w refl refl (sym over ∙ is) h s e

@@ -1,16 +1,14 @@
 -- How the pairs of a call are read, pair by pair.
 use Rattle.std.proofs.Common.{◌≡◌, ℕ, List, [], ◌∷◌, ◌++◌, codes, Bool, true, false, cond, Option, None, Some, Result, Ok, Err}
-use Rattle.std.proofs.Common.{refl, sym, ap, subst, ◌∙◌, append_assoc}
+use Rattle.std.proofs.Common.{refl, sym, ap, subst, ◌∙◌}
 use Rattle.std.specs.Prelude.{IfSome, bytes_eq, option_and_then}
 use Rattle.std.proofs.lemmas.List.{append-nil}
 use Rattle.liquid_error.specs.declared.place.Place.{Place}
 use Rattle.liquid_error.specs.meaning.Refusal.{Refusal, ok_then}
 use Rattle.liquid_parser.specs.declared.cursor.token.TagToken.{TagToken}
-use Rattle.liquid_parser.specs.declared.cursor.token.TryMatchToken.{TryMatchToken}
-use Rattle.liquid_parser.specs.declared.cursor.token.TryMatchToken.TheVariants.{Matches, Fails}
 use Rattle.liquid_parser.specs.declared.cursor.tokens.TagTokenIter.{TagTokenIter}
-use Rattle.liquid_parser.specs.meaning.Cursors.{FailedToken, HandsOut, IsToken, Tries, matched_of}
-use Rattle.liquid_parser.specs.meaning.Handed.{Token, Tokens, expect_identifier, expect_value, first_of, next, or_unexpected, unexpected}
+use Rattle.liquid_parser.specs.meaning.Cursors.{HandsOut}
+use Rattle.liquid_parser.specs.meaning.Handed.{Token, Tokens, expect_identifier, expect_value, first_of, next, or_unexpected}
 use Rattle.liquid_parser.proofs.StepLemmas.{then_refused}
 use Rattle.liquid_plugins.specs.meaning.Expression.{ExpressionShape}
 use Rattle.liquid_tags.specs.meaning.Asked.{next_as}
@@ -18,30 +16,10 @@ use Rattle.liquid_tags.specs.meaning.CallsGiven.{expect_colon}
 use Rattle.liquid_tags.specs.meaning.Partials.{Pair}
 use Rattle.liquid_std.specs.meaning.inclusion.CallsGiven.{after_comma, from_colon, from_value, is_comma, pair_from, pairs_from}
 use Rattle.liquid_std.specs.steps.inclusion.Pairs.{Finds, first_by, next_first, pair_given}
+use Rattle.liquid_tags.proofs.PairLemmas.{joined}
 
 abbrev following : Token → List Token → Tokens
 following t more = record { following = t.following; left = more }
-
--- a token is what is expected of it, or is refused
-pub token_taken : {A M : Type 0} (of : A → M) (expect : Token → Option M) (t : Token) (token : TagToken) (attempt : TryMatchToken A) (x : A)
-    → IsToken token t → Tries of token attempt (expect t)
-    → ((u : Token) → FailedToken attempt u → or_unexpected u (matched_of attempt) ≡ Ok x) → or_unexpected t (expect t) ≡ Ok (of x)
-token_taken of expect t token (Matches y) x is tries gives = ap (or_unexpected t) tries ∙ ap (λ q. ok_then q (λ a. Ok (of a))) (gives t tt)
-token_taken of expect t token (Fails u) x is tries gives =
-    let e : Err (unexpected t) ≡ Ok x = gives t (subst (λ k. IsToken k t) (sym tries.1) is) in
-    cc
-
-pub token_refused : {A M : Type 0} (of : A → M) (expect : Token → Option M) (t : Token) (token : TagToken) (attempt : TryMatchToken A)
-    (o : Option Refusal) → IsToken token t → Tries of token attempt (expect t)
-    → ((u : Token) → FailedToken attempt u → IfSome o (λ r. or_unexpected u (matched_of attempt) ≡ Err r))
-    → IfSome o (λ r. or_unexpected t (expect t) ≡ Err r)
-token_refused of expect t token (Matches y) None is tries gives = gives t tt
-token_refused of expect t token (Matches y) (Some r) is tries gives =
-    let e : Ok y ≡ Err r = gives t tt in
-    cc
-token_refused of expect t token (Fails u) None is tries gives = gives t (subst (λ k. IsToken k t) (sym tries.1) is)
-token_refused of expect t token (Fails u) (Some r) is tries gives =
-    ap (or_unexpected t) tries.0 ∙ ap (λ q. ok_then q (λ a. Ok (of a))) (gives t (subst (λ k. IsToken k t) (sym tries.1) is))
 
 abbrev with_name : List ℕ → ExpressionShape × Tokens → Result (Pair × Tokens) Refusal
 with_name name value = Ok ((name, value.0), value.1)
@@ -121,11 +99,6 @@ none_left place (t ∷ more) e = no_more t more (is_comma t) e
 -- the pairs that were read, and those that the tokens after them make
 abbrev pub read_on : List Pair → List Token → Result (List Pair) Refusal
 read_on done ts = ok_then (pairs_from ts) (λ qs. Ok (done ++ qs))
-
-joined : (done : List Pair) (pair : Pair) (r : Result (List Pair) Refusal)
-    → ok_then (ok_then r (λ qs. Ok (pair ∷ qs))) (λ qs. Ok (done ++ qs)) ≡ ok_then r (λ qs. Ok ((done ++ pair ∷ []) ++ qs))
-joined done pair (Ok qs) = ap (λ ps. Ok ps) (sym (append_assoc done (pair ∷ []) qs))
-joined done pair (Err refusal) = refl
 
 module _ (done : List Pair) (ts : Tokens) (meant : Result (List Pair) Refusal) (so_far : meant ≡ read_on done ts.left) where
   module _ (given : Token × Tokens) (first : next_first ts ≡ Some given) where

@@ -34,12 +34,7 @@ use Rattle.std.specs.Prelude.{slice_get, take, reverse, min}
 use Rattle.std.proofs.lemmas.List.{length-reverse, reverse-append, length-drop, length-take, take_min, drop-append-le}
 use Rattle.std.proofs.Math.Seq.{take-length}
 use Rattle.liquid_std.specs.meaning.iteration.Picked.{in_order, natural, picked}
-
-placed : {A : Type 0} (xs : List A) (place at sum : ℕ) → sum ≡ place + at → slice_get (drop place xs) at ≡ slice_get xs sum
-placed xs zero at sum e = ap (slice_get xs) (omega arith)
-placed [] (suc place) at sum e = refl
-placed (x ∷ xs) (suc place) at zero e = absurd (omega arith)
-placed (x ∷ xs) (suc place) at (suc sum) e = placed xs place at sum (omega arith)
+use Rattle.liquid_tags.proofs.ItemLemmas.{placed, rest_past}
 
 -- what is at a place before an end
 taken_at : {A : Type 0} (xs : List A) (to at : ℕ) → at < to → slice_get (take to xs) at ≡ slice_get xs at
@@ -59,11 +54,6 @@ within : {A : Type 0} (xs : List A) (at : ℕ) → at < length xs → (x : A) ×
 within [] at below = absurd (omega arith)
 within (x ∷ xs) zero below = (x, refl)
 within (x ∷ xs) (suc at) below = within xs at (omega arith)
-
-rest_past : {A : Type 0} (xs : List A) (place : ℕ) → drop (suc place) xs ≡ drop 1 (drop place xs)
-rest_past xs zero = refl
-rest_past [] (suc place) = refl
-rest_past (x ∷ xs) (suc place) = rest_past xs place
 
 dropped_all : {A : Type 0} (xs : List A) (n : ℕ) → length xs ≤ n → drop n xs ≡ []
 dropped_all [] zero all = refl

@@ -51,7 +51,7 @@ at_place xs zero = refl
 at_place [] (suc place) = refl
 at_place (x ∷ xs) (suc place) = at_place xs place
 
-rest_past : {A : Type 0} (xs : List A) (place : ℕ) → drop (suc place) xs ≡ drop 1 (drop place xs)
+pub rest_past : {A : Type 0} (xs : List A) (place : ℕ) → drop (suc place) xs ≡ drop 1 (drop place xs)
 rest_past xs zero = refl
 rest_past [] (suc place) = refl
 rest_past (x ∷ xs) (suc place) = rest_past xs place
@@ -66,7 +66,7 @@ none_after (x ∷ xs) zero none = absurd (none-some x (sym none))
 none_after (x ∷ xs) (suc place) none = none_after xs place none
 
 -- what is at a place of what is left from another
-placed : {A : Type 0} (xs : List A) (place at sum : ℕ) → sum ≡ place + at → slice_get (drop place xs) at ≡ slice_get xs sum
+pub placed : {A : Type 0} (xs : List A) (place at sum : ℕ) → sum ≡ place + at → slice_get (drop place xs) at ≡ slice_get xs sum
 placed xs zero at sum e = ap (slice_get xs) (omega arith)
 placed [] (suc place) at sum e = refl
 placed (x ∷ xs) (suc place) at zero e = absurd (omega arith)

@@ -43,7 +43,7 @@ use Rattle.liquid_tags.specs.meaning.Library.{library}
 use Rattle.liquid_tags.specs.meaning.Loops.{is_left, item_turn, rested}
 use Rattle.liquid_tags.specs.meaning.Series.{items_of}
 
-is_left_by : (place k : ℕ) (i : Option Interrupt) → place ≡ suc k → is_left place i ≡ leaves i
+pub is_left_by : (place k : ℕ) (i : Option Interrupt) → place ≡ suc k → is_left place i ≡ leaves i
 is_left_by place k None e = ap (λ n. is_left n None) e
 is_left_by place k (Some Break) e = ap (λ n. is_left n (Some Break)) e
 is_left_by place k (Some Continue) e = ap (λ n. is_left n (Some Continue)) e

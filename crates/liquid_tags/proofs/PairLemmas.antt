@@ -126,7 +126,7 @@ comma_given t token (Fails u) r is tries gives =
 abbrev pub read_on : List Pair → List Token → Result (List Pair) Refusal
 read_on done ts = ok_then (pairs_given ts) (λ qs. Ok (done ++ qs))
 
-joined : (done : List Pair) (pair : Pair) (r : Result (List Pair) Refusal)
+pub joined : (done : List Pair) (pair : Pair) (r : Result (List Pair) Refusal)
     → ok_then (ok_then r (λ qs. Ok (pair ∷ qs))) (λ qs. Ok (done ++ qs)) ≡ ok_then r (λ qs. Ok ((done ++ pair ∷ []) ++ qs))
 joined done pair (Ok qs) = ap (λ ps. Ok ps) (sym (append_assoc done (pair ∷ []) qs))
 joined done pair (Err refusal) = refl

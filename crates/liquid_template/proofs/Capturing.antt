@@ -30,7 +30,7 @@ use Rattle.std.proofs.Common.{
 }
 use Rattle.std.specs.Prelude.{MatchOption, IfSome}
 use Rattle.std.proofs.lemmas.List.{append-nil, map-append}
-use Rattle.std.proofs.lemmas.Option.{same_Some}
+use Rattle.std.proofs.lemmas.Option.{same_Some, none-some}
 use Rattle.liquid_error.specs.declared.error.Error.{Error}
 use Rattle.liquid_error.specs.meaning.Refusal.{Refusal}
 use Rattle.liquid_error.specs.meaning.Told.{told}
@@ -180,13 +180,9 @@ module _ {Reg : Type 0} where
       → d.sunk.taken ≡ written r
   text_silent r v x b o d c u a h = h.outcome.0.taken ∙ ap (λ t. t ++ written r) a.empty
 
--- one text is open, and the sink around it is as it was
-none_some : {A : Type 0} (x : A) → None ≡ Some x → ⊥
-none_some x e = cc
-
 some_around : (o x : Output) (text : Option (List ℕ)) (n m : ℕ) (t : List ℕ) → around_of o text n ≡ around_of x (Some t) m
     → (o ≡ record x { turns = o.turns }) × (text ≡ Some (target_of o text).sunk.taken) × (n ≡ m)
-some_around o x None n m t e = absurd (none_some x.sunk (ap (λ y. y.sunk) e))
+some_around o x None n m t e = absurd (none-some x.sunk (ap (λ y. y.sunk) e))
 some_around o x (Some text) n m t e = (
   ap (λ s. record { sunk = s; turns = o.turns; bytes = o.bytes }) (same_Some o.sunk x.sunk (ap (λ y. y.sunk) e))
       ∙ ap (λ s. record { sunk = x.sunk; turns = o.turns; bytes = s }) (same_Some o.bytes x.bytes (ap (λ y. y.bytes) e)),

@@ -32,14 +32,12 @@ use Rattle.liquid_template.proofs.Steps.{capture_more, capture_fails}
 use Rattle.liquid_template.proofs.Capturing.{renders_silent, text_silent}
 use Rattle.liquid_template.proofs.Passing.{passes_none}
 use Rattle.liquid_template.proofs.Pouring.{pours_nothing, pours_refused}
-use Rattle.liquid_template.proofs.Renderings.{turns_done_at, list_fails_at, list_stops_at, list_goes_at, list_done_at, turn_puts}
+use Rattle.liquid_template.proofs.Renderings.{turns_done_at, list_fails_at, list_stops_at, list_goes_at, list_done_at, turn_puts, true-not-false}
 use Rattle.liquid_template.proofs.Renderings.{turn_bodies, turn_captures, turn_includes, if_then, deep_is, more_is}
+use Rattle.std.proofs.lemmas.Option.{none-some}
 
 false-not-true : false ≡ true → ⊥
 false-not-true e = cc
-
-none-not-some : {A : Type 0} (x : A) → None ≡ Some x → ⊥
-none-not-some x e = cc
 
 true-not-false : true ≡ false → ⊥
 true-not-false e = cc
@@ -57,15 +55,15 @@ renders_ok r v w b a answer h x = subst (λ y. RendersWithin r v b a w y) (sym (
 becomes_twice : (change : Refusal → Refusal) (o p q : Option Refusal) → IfSome p (λ r. option_map (λ x. x) o ≡ Some r)
     → IfSome q (λ r. option_map change p ≡ Some r) → IfSome q (λ r. option_map change o ≡ Some r)
 becomes_twice change o p None h k = tt
-becomes_twice change o None (Some r) h k = absurd (none-not-some r k)
-becomes_twice change None (Some x) (Some r) h k = absurd (none-not-some x h)
+becomes_twice change o None (Some r) h k = absurd (none-some r k)
+becomes_twice change None (Some x) (Some r) h k = absurd (none-some x h)
 becomes_twice change (Some y) (Some x) (Some r) h k = subst (λ z. option_map change z ≡ Some r) (sym h) k
 
 -- a refusal that another error says too
 pub said_again : {A : Type 0} (meant : Result A Refusal) (o p : Option Refusal) → IfSome p (λ r. option_map (λ x. x) o ≡ Some r)
     → IfSome o (λ r. meant ≡ Err r) → IfSome p (λ r. meant ≡ Err r)
 said_again meant o None h k = tt
-said_again meant None (Some r) h k = absurd (none-not-some r h)
+said_again meant None (Some r) h k = absurd (none-some r h)
 said_again meant (Some x) (Some r) h k =
     let same : x ≡ r = cc in
     subst (λ y. meant ≡ Err y) same k
@@ -127,9 +125,6 @@ partial_fails fresh frame trace inner v v1 w x rs rs1 rs2 rs3 e (Err f) h i j l 
 -- what is owed in addition to what is owed
 pub owed_above : {A : Type 0} (x : A) (xs ys zs : List A) → xs ≡ x ∷ ys → ys ≡ zs → xs ≡ x ∷ zs
 owed_above x xs ys zs e i = e ∙ ap (λ l. x ∷ l) i
-
-pub true_not_false : (x : Bool) → x ≡ true → x ≡ false → ⊥
-true_not_false x i e = cc
 
 pub asked_true : (b c : Output) (r : Bool) → r ≡ true → TurnAsked b c r → TurnAsked b c true
 asked_true b c r e q = subst (λ x. TurnAsked b c x) e q

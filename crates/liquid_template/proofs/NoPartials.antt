@@ -1,5 +1,5 @@
 -- What is found if there are no partials, and the names that a refusal lists.
-use Rattle.std.proofs.Common.{◌≡◌, ℕ, List, [], ◌∷◌, ◌++◌, map, length, None, Some, Result, Err, refl, sym, ap, ◌∙◌, arith}
+use Rattle.std.proofs.Common.{◌≡◌, ℕ, List, [], ◌∷◌, ◌++◌, map, None, Some, Result, Err, refl, sym, ap, ◌∙◌}
 use Rattle.std.specs.Prelude.{codes, option_and_then}
 use Rattle.std.specs.Borrow.{Bor}
 use Rattle.std.specs.List.{join_by, flat_map}
@@ -10,17 +10,14 @@ use Rattle.liquid_error.specs.meaning.Refusal.{Refusal}
 use Rattle.liquid_paths.specs.meaning.Walk.{listed}
 use Rattle.liquid_runtime.specs.meaning.Maps.{NameMap}
 use Rattle.liquid_template.specs.meaning.Partials.{partial_in, tree_in, read_tree, unknown_partial}
-
-none_left : {A : Type 0} (es : List A) → length es ≡ 0 → es ≡ []
-none_left [] e = refl
-none_left (x ∷ es) e = absurd (omega arith)
+use Rattle.std.proofs.lemmas.List.{nil_from_length}
 
 pub no_name : {X : Type 0} (name : List ℕ) → get (empty {X = X} {R = slice_cmp nat_cmp}) name ≡ None
 no_name name = get-empty (slice_cmp nat_cmp) name
 
 pub no_names : (X : Type 0) → keys (empty {X = X} {R = slice_cmp nat_cmp}) ≡ []
 no_names X =
-    ap (map (λ e. e.0)) (none_left (entries (empty {X = X} {R = slice_cmp nat_cmp}))
+    ap (map (λ e. e.0)) (nil_from_length (entries (empty {X = X} {R = slice_cmp nat_cmp}))
     (sym (len-entries empty) ∙ len-empty (slice_cmp nat_cmp) X))
 
 module _ {A : Type 0} where

@@ -73,7 +73,7 @@ pub if_then : {A C : Refusal → Type 0} (t : Option Refusal) → ((r : Refusal)
 if_then None f a = tt
 if_then (Some r) f a = f r a
 
-true-not-false : (x : Bool) → x ≡ true → x ≡ false → ⊥
+pub true-not-false : (x : Bool) → x ≡ true → x ≡ false → ⊥
 true-not-false x i e = cc
 
 -- a test that holds exactly if another one does

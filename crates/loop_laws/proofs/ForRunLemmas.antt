@@ -1,32 +1,7 @@
 -- The turns of a `for` are the bodies of its items.
-use Rattle.std.proofs.Common.{
-  ◌≡◌,
-  ℕ,
-  suc,
-  ◌+◌,
-  List,
-  [],
-  ◌∷◌,
-  length,
-  Bool,
-  true,
-  false,
-  cond,
-  Option,
-  None,
-  Some,
-  Result,
-  Ok,
-  Err,
-  refl,
-  ap,
-  ◌∙◌,
-  add-one,
-}
+use Rattle.std.proofs.Common.{◌≡◌, ℕ, suc, ◌+◌, List, [], ◌∷◌, length, Bool, true, false, cond, None, Some, Result, Ok, Err, refl, ap, ◌∙◌, add-one}
 use Rattle.liquid_error.specs.meaning.Refusal.{Refusal, ok_then}
 use Rattle.liquid_value.specs.meaning.Tree.{Tree}
-use Rattle.liquid_runtime.specs.declared.registers.Interrupt.{Interrupt}
-use Rattle.liquid_runtime.specs.declared.registers.Interrupt.TheVariants.{Break, Continue}
 use Rattle.liquid_runtime.specs.meaning.Frames.{no_frame}
 use Rattle.liquid_runtime.specs.meaning.View.{View}
 use Rattle.liquid_runtime.specs.meaning.Written.{with_written, written_of}
@@ -47,11 +22,7 @@ use Rattle.liquid_std.specs.meaning.Blocks.{block_nodes, over_items}
 use Rattle.loop_laws.specs.laws.ForLoops.{TakesElse}
 use Rattle.loop_laws.specs.laws.ForRuns.{for_run, part_alone}
 use Rattle.loop_laws.proofs.EndsLemmas.{asked, then_done, then_same, unframed}
-
-pub is_left_by : (place k : ℕ) (i : Option Interrupt) → place ≡ suc k → is_left place i ≡ leaves i
-is_left_by place k None e = ap (λ n. is_left n None) e
-is_left_by place k (Some Break) e = ap (λ n. is_left n (Some Break)) e
-is_left_by place k (Some Continue) e = ap (λ n. is_left n (Some Continue)) e
+use Rattle.liquid_tags.proofs.LoopRunLemmas.{is_left_by}
 
 module _ {Reg : Type 0} where
   -- what a turn leaves

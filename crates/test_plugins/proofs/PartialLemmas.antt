@@ -1,31 +1,5 @@
 -- What a store of one partial finds.
-use Rattle.std.proofs.Common.{
-  ◌≡◌,
-  ℕ,
-  Bool,
-  true,
-  false,
-  cond,
-  List,
-  [],
-  ◌∷◌,
-  ◌++◌,
-  Option,
-  Some,
-  None,
-  is_some,
-  Result,
-  Ok,
-  Err,
-  map,
-  length,
-  refl,
-  sym,
-  ap,
-  ◌∙◌,
-  subst,
-  arith,
-}
+use Rattle.std.proofs.Common.{◌≡◌, ℕ, Bool, true, false, cond, List, [], ◌∷◌, ◌++◌, Option, Some, None, is_some, Result, Ok, Err, map, refl, sym, ap, ◌∙◌, subst}
 use Rattle.std.specs.Prelude.{option_and_then}
 use Rattle.std.specs.Borrow.{Bor}
 use Rattle.std.specs.Cmp.Lexicographic.{slice_cmp, nat_list_cmp_total}
@@ -36,10 +10,7 @@ use Rattle.std.specs.Str.{bytes_eq}
 use Rattle.std.proofs.lemmas.Map.Text.{is_eq-slice_cmp}
 use Rattle.liquid_error.specs.meaning.Refusal.{Refusal}
 use Rattle.liquid_template.specs.meaning.Partials.{partial_in, tree_in, read_tree, unknown_partial}
-
-none_left : {A : Type 0} (es : List A) → length es ≡ 0 → es ≡ []
-none_left [] e = refl
-none_left (x ∷ es) e = absurd (omega arith)
+use Rattle.std.proofs.lemmas.List.{nil_from_length}
 
 module _ {X : Type 0} (name : List ℕ) (x : X) where
   pub get_one : (q : List ℕ) → get (insert (empty {R = slice_cmp nat_cmp}) name x) q ≡ cond (bytes_eq q name) (Some x) None
@@ -50,7 +21,7 @@ module _ {X : Type 0} (name : List ℕ) (x : X) where
 
   pub keys_one : keys (insert (empty {R = slice_cmp nat_cmp}) name x) ≡ name ∷ []
   keys_one = ap (map (λ e. e.0)) (entries-insert nat_list_cmp_total empty name x
-      ∙ ap (put (slice_cmp nat_cmp) name x) (none_left (entries (empty {X = X} {R = slice_cmp nat_cmp}))
+      ∙ ap (put (slice_cmp nat_cmp) name x) (nil_from_length (entries (empty {X = X} {R = slice_cmp nat_cmp}))
       (sym (len-entries empty) ∙ len-empty (slice_cmp nat_cmp) X)))
 
 is_some_cond : {X : Type 0} (b : Bool) (x : X) → is_some (cond b (Some x) None) ≡ b

@@ -3,8 +3,8 @@ use Rattle.std.specs.Prelude.{◌&&◌, bytes_eq}
 use Rattle.std.proofs.lemmas.Result.{err_from_is_err_and}
 use Rattle.liquid_error.specs.meaning.Told.{told}
 use Rattle.liquid_parser.specs.meaning.Handed.{expect_identifier}
-use Rattle.liquid_std.proofs.PairLemmas.{token_refused, token_taken}
 use Rattle.jekyll_tags.proofs.HighlightLemmas.{name_refused, name_taken, value_refused, value_taken}
+use Rattle.liquid_parser.proofs.NextLemmas.{token_taken, token_refused}
 use Rattle.jekyll_tags.proofs.highlight.read_option.Goals as goal
 
 pub returns-then-gives_value-clause-value : goal.returns-then-gives_value-clause-value

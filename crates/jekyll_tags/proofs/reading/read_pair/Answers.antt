@@ -2,7 +2,7 @@ use Rattle.std.proofs.lemmas.Result.{err_from_is_err_and}
 use Rattle.liquid_error.specs.meaning.Told.{told}
 use Rattle.liquid_parser.specs.meaning.Handed.{expect_identifier}
 use Rattle.jekyll_tags.proofs.PairLemmas.{name_refused, pair_taken, sign_refused, value_refused}
-use Rattle.liquid_std.proofs.PairLemmas.{token_refused, token_taken}
+use Rattle.liquid_parser.proofs.NextLemmas.{token_taken, token_refused}
 use Rattle.jekyll_tags.proofs.reading.read_pair.Goals as goal
 
 pub returns-clause-value : goal.returns-clause-value

@@ -1,7 +1,8 @@
 use Rattle.std.proofs.lemmas.Result.{err_from_is_err_and}
 use Rattle.liquid_error.specs.meaning.Told.{told}
 use Rattle.liquid_parser.specs.meaning.Handed.{expect_identifier}
-use Rattle.liquid_extend.proofs.ArgumentLemmas.{name_refused, pair_taken, pair_value_refused, sign_refused, token_refused, token_taken}
+use Rattle.liquid_extend.proofs.ArgumentLemmas.{name_refused, pair_taken, pair_value_refused, sign_refused}
+use Rattle.liquid_parser.proofs.NextLemmas.{token_taken, token_refused}
 use Rattle.liquid_extend.proofs.arguments.read_pair.Goals as goal
 
 pub returns-clause-value : goal.returns-clause-value

@@ -2,7 +2,8 @@ use Rattle.std.proofs.lemmas.Result.{err_from_is_err_and}
 use Rattle.liquid_error.specs.meaning.Told.{told}
 use Rattle.liquid_parser.specs.meaning.Handed.{expect_value}
 use Rattle.liquid_plugins.specs.meaning.ExpressionOf.{expression_of}
-use Rattle.liquid_extend.proofs.ArgumentLemmas.{token_refused, token_taken, value_refused, value_taken}
+use Rattle.liquid_extend.proofs.ArgumentLemmas.{value_refused, value_taken}
+use Rattle.liquid_parser.proofs.NextLemmas.{token_taken, token_refused}
 use Rattle.liquid_extend.proofs.arguments.read_value.Goals as goal
 
 pub returns-clause-value : goal.returns-clause-value

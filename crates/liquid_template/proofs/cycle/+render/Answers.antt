@@ -5,7 +5,7 @@ use Rattle.liquid_template.specs.steps.PartsOf.{parts_of}
 use Rattle.liquid_template.specs.steps.Bound.{partials_size}
 use Rattle.liquid_template.proofs.Shapes.{nodes_drop, nodes_end, size_member, size_part, node_text, node_brief, node_name, node_chain}
 use Rattle.liquid_template.proofs.Shapes.{node_tag, node_block}
-use Rattle.liquid_template.proofs.Renderings.{stands, stands_not, left_more, left_none, none_yet, start_goes_at, node_puts, node_chains}
+use Rattle.liquid_template.proofs.Renderings.{stands, stands_not, left_more, left_none, none_yet, start_goes_at, node_puts, node_chains, true-not-false}
 use Rattle.liquid_template.proofs.Renderings.{node_tags, node_blocks, part_renders, no_part_renders}
 use Rattle.liquid_template.proofs.Framing.{owed_open, framed_kept}
 use Rattle.liquid_template.proofs.Goings.{
@@ -19,7 +19,7 @@ use Rattle.liquid_template.proofs.Goings.{
   turns_over,
   node_fails,
 }
-use Rattle.liquid_template.proofs.Goings.{node_stops, node_goes, nodes_over, opens_kept, opens_taken, captured_taken, true_not_false}
+use Rattle.liquid_template.proofs.Goings.{node_stops, node_goes, nodes_over, opens_kept, opens_taken, captured_taken}
 use Rattle.liquid_template.proofs.Capturing.{text_stays, closed_aside, closed_around, text_caught, nothing_open, nothing_aside}
 use Rattle.liquid_template.proofs.Keeping.{keeps_all, keeps_store, keeps_both, keeps_ended, keeps_asked, keeps_unless, tags_open_none}
 use Rattle.liquid_template.proofs.Keeping.{blocks_open_none}
@@ -263,7 +263,7 @@ take_tag-returns-else-goes_on-clause-takes g t c =
       ends = c.end_turn-goes_on.ensures.ends (owed_open _ _ _ _ _ c.in-Captured.ensures.turned.0.owes refl);
       traced = c.end_turn-goes_on.ensures.traced;
       goes_on = c.end_turn-goes_on.ensures.goes_on;
-      progress = λ i. absurd (true_not_false _ i c.if-goes_on.false);
+      progress = λ i. absurd (true-not-false _ i c.if-goes_on.false);
     })
 
 pub take_tag-returns-then-goes_on-clause-owes : goal.take_tag-returns-then-goes_on-clause-owes

@@ -1,12 +1,12 @@
 use Rattle.std.proofs.Common.{◌+◌, ◌++◌, drop, map, ap, sym, ◌∙◌}
-use Rattle.std.proofs.lemmas.Bool.{MatchBool-at_true, MatchBool-at_false, not-true}
+use Rattle.std.proofs.lemmas.Bool.{MatchBool-at_true, MatchBool-at_false, not-true, not-false}
 use Rattle.liquid_value.specs.meaning.View.{view}
 use Rattle.liquid_filters.specs.meaning.list.Choices.{distinct, items_in}
 use Rattle.liquid_filters.specs.meaning.list.Entries.{entry_view}
-use Rattle.liquid_filters.proofs.DistinctLemmas.{is_seen, unseen, kept-start, kept-new, kept-old, not-false}
-use Rattle.liquid_filters.proofs.ListSteps.{mapped-drop}
+use Rattle.liquid_filters.proofs.DistinctLemmas.{is_seen, unseen, kept-start, kept-new, kept-old}
 use Rattle.liquid_filters.proofs.list.choices.distinct.Goals as goal
 use Rattle.liquid_filters.proofs.list.choices.distinct.Goals.{then-branch+in_ok-push_copy, else-branch}
+use Rattle.liquid_paths.proofs.Turns.{map-drop}
 
 pub loop-entry-init : goal.loop-entry-init
 loop-entry-init c = kept-start _ _ _ c.new-kept.ensures.items c.new-seen.ensures.empty
@@ -15,7 +15,7 @@ pub loop-entry-preserved : goal.loop-entry-preserved
 loop-entry-preserved c =
     let l = c.loop-entry in
     let x = c.entry-item.result in
-    let front = mapped-drop entry_view c.args.entries.now l.entry-index x c.loop-entry-test.true c.entry-item.is in
+    let front = map-drop entry_view c.args.entries.now l.entry-index x c.loop-entry-test.true c.entry-item.is in
     let so_far = ap (λ es. map view l.kept.items ++ items_in (unseen l.seen.keys (distinct es))) (sym front) ∙ l.invariant in
     let rest = map entry_view (drop (l.entry-index + 1) c.args.entries.now) in
     let key = c.as_view.ensures in

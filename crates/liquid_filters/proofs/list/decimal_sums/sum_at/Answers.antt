@@ -6,8 +6,8 @@ use Rattle.std.proofs.lemmas.List.{at_drop_all}
 use Rattle.liquid_decimals.specs.meaning.Dec.{dec}
 use Rattle.liquid_filters.specs.meaning.value.Numbers.{fits}
 use Rattle.liquid_filters.specs.meaning.list.DecimalSums.{sum_at}
-use Rattle.liquid_filters.proofs.ListSteps.{mapped-drop}
 use Rattle.liquid_filters.proofs.DecimalSumLemmas.{parts_joined, parts_moved}
+use Rattle.liquid_paths.proofs.Turns.{map-drop}
 use Rattle.liquid_filters.proofs.list.decimal_sums.sum_at.Goals as goal
 
 pub loop-decimal-preserved : goal.loop-decimal-preserved
@@ -17,7 +17,7 @@ loop-decimal-preserved c =
     let rest = sum_at c.args.scale (map dec (drop (c.loop-decimal.decimal-index + 1) c.args.decimals.now)) in
     let total = sum_at c.args.scale (map dec c.args.decimals.now) in
     let front =
-    mapped-drop dec c.args.decimals.now c.loop-decimal.decimal-index c.decimal-item.result c.loop-decimal-test.true c.decimal-item.is in
+    map-drop dec c.args.decimals.now c.loop-decimal.decimal-index c.decimal-item.result c.loop-decimal-test.true c.decimal-item.is in
     record {
       value = parts_moved total upper lower c.mantissa_at-mantissa.result rest c.parts-more_upper.result.0 c.parts-more_upper.result.1
           (to_z w128 (of_z w128 (upper +ℤ to_z w128 (of_z w128 c.parts-more_upper.result.0))))

@@ -1,14 +1,14 @@
 use Rattle.std.proofs.Common.{◌+◌, [], ◌∷◌, ◌++◌, drop, map, ap, sym, ◌∙◌}
-use Rattle.std.proofs.lemmas.Bool.{MatchBool-at_true, MatchBool-at_false, not-true}
+use Rattle.std.proofs.lemmas.Bool.{MatchBool-at_true, MatchBool-at_false, not-true, not-false}
 use Rattle.std.proofs.lemmas.List.{map-append}
 use Rattle.liquid_value.specs.meaning.View.{view}
 use Rattle.liquid_filters.specs.meaning.list.Choices.{distinct, keys_of}
 use Rattle.liquid_filters.specs.meaning.list.Entries.{entry_view}
-use Rattle.liquid_filters.proofs.DistinctLemmas.{is_seen, unseen, not-false}
-use Rattle.liquid_filters.proofs.ListSteps.{mapped-drop}
+use Rattle.liquid_filters.proofs.DistinctLemmas.{is_seen, unseen}
 use Rattle.liquid_jekyll.proofs.GroupLemmas.{keys-start, keys-new, keys-old}
 use Rattle.liquid_jekyll.proofs.list.grouping.first_keys.Goals as goal
 use Rattle.liquid_jekyll.proofs.list.grouping.first_keys.Goals.{then-branch+in_ok-push, else-branch}
+use Rattle.liquid_paths.proofs.Turns.{map-drop}
 
 pub loop-entry-init : goal.loop-entry-init
 loop-entry-init c = keys-start _ _ _ c.new-keys.ensures.items c.new-seen.ensures.empty
@@ -17,7 +17,7 @@ pub loop-entry-preserved : goal.loop-entry-preserved
 loop-entry-preserved c =
     let l = c.loop-entry in
     let x = c.entry-item.result in
-    let front = mapped-drop entry_view c.args.entries.now l.entry-index x c.loop-entry-test.true c.entry-item.is in
+    let front = map-drop entry_view c.args.entries.now l.entry-index x c.loop-entry-test.true c.entry-item.is in
     let so_far = ap (λ es. map (λ r. view r.now) l.keys.items ++ keys_of (unseen l.seen.keys (distinct es))) (sym front) ∙ l.invariant in
     let rest = map entry_view (drop (l.entry-index + 1) c.args.entries.now) in
     let key = c.as_view-key.ensures in

@@ -3,7 +3,8 @@ use Rattle.liquid_parser.specs.meaning.Plugins.{language_of}
 use Rattle.liquid_template.specs.meaning.TemplateOf.{template_nodes}
 use Rattle.liquid_partials.specs.meaning.Compiled.{Compiled}
 use Rattle.liquid_partials.specs.meaning.Kept.{HasAll, Known}
-use Rattle.liquid_partials.proofs.LazyLemmas.{ReadSoFar, none_left, read_none, read_more, read_all, all_counted}
+use Rattle.liquid_partials.proofs.LazyLemmas.{ReadSoFar, read_none, read_more, read_all, all_counted}
+use Rattle.std.proofs.lemmas.List.{nil_from_length}
 use Rattle.liquid_partials.proofs.eager.EagerCompilerPartialCompiler.compile.Goals as goal
 
 pub loop-name-init : goal.loop-name-init
@@ -41,7 +42,7 @@ loop-name-preserved g c =
 
 pub invariant_of-result : goal.invariant_of-result
 invariant_of-result g c =
-    let none = none_left c.loop-name.name-iterator.rest.items (sym c.loop-name.name-iterator.rest.ok.0 ∙ c.in-None.ensures.steps.0) in
+    let none = nil_from_length c.loop-name.name-iterator.rest.items (sym c.loop-name.name-iterator.rest.ok.0 ∙ c.in-None.ensures.steps.0) in
     let whole =
     subst (λ items. ReadSoFar (λ template. template_nodes g.F.Filter.Meant.shape g.T.Node.Meant.shape g.B.Node.Meant.shape
     template.value) (g.S.PartialSource.texts c.args.self.source) c.loop-name.lazy.kept c.loop-name.lazy.texts.readings.count
@@ -55,7 +56,7 @@ invariant_of-result g c =
 
 pub returns-clause-count : goal.returns-clause-count
 returns-clause-count g c =
-    let none = none_left c.loop-name.name-iterator.rest.items (sym c.loop-name.name-iterator.rest.ok.0 ∙ c.in-None.ensures.steps.0) in
+    let none = nil_from_length c.loop-name.name-iterator.rest.items (sym c.loop-name.name-iterator.rest.ok.0 ∙ c.in-None.ensures.steps.0) in
     let whole =
     subst (λ items. ReadSoFar (λ template. template_nodes g.F.Filter.Meant.shape g.T.Node.Meant.shape g.B.Node.Meant.shape
     template.value) (g.S.PartialSource.texts c.args.self.source) c.loop-name.lazy.kept c.loop-name.lazy.texts.readings.count

@@ -6,7 +6,8 @@ use Rattle.liquid_template.specs.meaning.TemplateOf.{template_nodes}
 use Rattle.liquid_partials.specs.meaning.Keeping.{is_answer}
 use Rattle.liquid_partials.specs.meaning.Kept.{all_kept, kept_as, kept_or_read, readings}
 use Rattle.liquid_partials.proofs.LazyLemmas.{found_kept, kept_stays, keys-known}
-use Rattle.liquid_partials.proofs.StoreLemmas.{if_some, partial_found}
+use Rattle.liquid_partials.proofs.StoreLemmas.{partial_found}
+use Rattle.liquid_parser.proofs.TokenLemmas.{if_some_weaker}
 use Rattle.liquid_partials.proofs.lazy.LazyStorePartialStoreFilterNodeNode.get.Goals as goal
 
 pub returns-in-Some-clause-gives : goal.returns-in-Some-clause-gives
@@ -36,7 +37,7 @@ returns-in-Some-clause-keeps g c =
 
 pub returns-in-Ok-None-clause-gives : goal.returns-in-Ok-None-clause-gives
 returns-in-Ok-None-clause-gives g c =
-    if_some (told c.unknown.result)
+    if_some_weaker (told c.unknown.result)
     (λ r e. partial_found (kept_or_read (λ template. template_nodes g.F.Filter.Meant.shape g.T.Node.Meant.shape g.B.Node.Meant.shape
     template.value) (language_of g.F.ParseFilter.makes g.T.ParseTag.gives g.B.ParseBlock.block
     c.args.self.now.texts.parser.language.value) c.args.self.now.kept (g.S.PartialSource.texts c.args.self.now.texts.source))

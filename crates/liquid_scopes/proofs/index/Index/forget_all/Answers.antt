@@ -2,7 +2,8 @@ use Rattle.std.proofs.Common.{◌≡◌, sym, ap, ◌∙◌, string_bytes, bytes
 use Rattle.std.specs.Prelude.{nat_eq, ◌&&◌, ◌||◌, not}
 use Rattle.liquid_scopes.specs.steps.Standing.{stands}
 use Rattle.liquid_runtime.proofs.Objects.{has_name, has_names_of}
-use Rattle.liquid_scopes.proofs.IndexLaws.{has_more, forget_moves, and_true}
+use Rattle.liquid_scopes.proofs.IndexLaws.{has_more, forget_moves}
+use Rattle.std.proofs.Math.Bool.{and-true}
 use Rattle.liquid_scopes.proofs.index.Index.forget_all.Goals as goal
 
 pub loop-name-init : goal.loop-name-init
@@ -29,4 +30,4 @@ pub returns : goal.returns
 returns c = λ q j.
     let S = stands c.loop-name.self.places q j in
     let e = nat_eq j c.args.frame in
-    sym (and_true S) ∙ ap (λ es. S && not (has_name q es && e)) (sym c.in-None.ensures.steps.0) ∙ c.loop-name.invariant q j
+    sym (and-true S) ∙ ap (λ es. S && not (has_name q es && e)) (sym c.in-None.ensures.steps.0) ∙ c.loop-name.invariant q j

@@ -4,7 +4,8 @@ use Rattle.std.specs.FinMap.{get}
 use Rattle.liquid_runtime.specs.meaning.Maps.{names_of}
 use Rattle.liquid_scopes.specs.steps.Standing.{stands}
 use Rattle.liquid_runtime.proofs.Objects.{has_name, has_names_of}
-use Rattle.liquid_scopes.proofs.IndexLaws.{has_more, note_moves, stays_there, partly_noted, or_same, or_false}
+use Rattle.liquid_scopes.proofs.IndexLaws.{has_more, note_moves, stays_there, partly_noted, or_same}
+use Rattle.std.proofs.Math.Bool.{or-false}
 use Rattle.liquid_scopes.proofs.index.Index.note_all.Goals as goal
 
 pub loop-name-init : goal.loop-name-init
@@ -45,7 +46,7 @@ pub returns-clause-noted : goal.returns-clause-noted
 returns-clause-noted c = λ q j.
     let S = stands c.loop-name.self.places q j in
     let e = nat_eq j c.args.frame in
-    sym (or_false S) ∙ ap (λ es. S || (has_name q es && e)) (sym c.in-None.ensures.steps.0) ∙ (c.loop-name.invariant q j).0
+    sym (or-false S) ∙ ap (λ es. S || (has_name q es && e)) (sym c.in-None.ensures.steps.0) ∙ (c.loop-name.invariant q j).0
 
 pub returns-clause-partly : goal.returns-clause-partly
 returns-clause-partly c = λ q j.

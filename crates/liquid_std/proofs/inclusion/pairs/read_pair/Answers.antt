@@ -1,7 +1,8 @@
 use Rattle.std.proofs.lemmas.Result.{err_from_is_err_and}
 use Rattle.liquid_error.specs.meaning.Told.{told}
 use Rattle.liquid_parser.specs.meaning.Handed.{expect_identifier}
-use Rattle.liquid_std.proofs.PairLemmas.{name_refused, pair_taken, sign_refused, token_refused, token_taken, value_refused}
+use Rattle.liquid_std.proofs.PairLemmas.{name_refused, pair_taken, sign_refused, value_refused}
+use Rattle.liquid_parser.proofs.NextLemmas.{token_taken, token_refused}
 use Rattle.liquid_std.proofs.inclusion.pairs.read_pair.Goals as goal
 
 pub returns-clause-value : goal.returns-clause-value
