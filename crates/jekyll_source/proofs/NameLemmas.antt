@@ -1,42 +1,5 @@
 -- The parts of a name, one after another, and where a name ends.
-use Rattle.std.proofs.Common.{
-  ◌≡◌,
-  ◌≢◌,
-  ℕ,
-  zero,
-  suc,
-  ◌+◌,
-  ◌-◌,
-  ◌<◌,
-  ◌≤◌,
-  Bool,
-  true,
-  false,
-  cond,
-  not,
-  List,
-  [],
-  ◌∷◌,
-  ◌++◌,
-  Option,
-  Some,
-  None,
-  length,
-  take,
-  drop,
-  get_or,
-  codes,
-  refl,
-  sym,
-  ap,
-  subst,
-  ◌∙◌,
-  arith,
-  append_assoc,
-  length-drop,
-  drop_of_length-le,
-  ◌&&◌,
-}
+use Rattle.std.proofs.Common.{◌≡◌, ◌≢◌, ℕ, zero, suc, ◌+◌, ◌-◌, ◌<◌, ◌≤◌, Bool, true, false, cond, not, List, [], ◌∷◌, ◌++◌, Option, Some, None, length, take, drop, get_or, codes, refl, sym, ap, subst, ◌∙◌, arith, append_assoc, drop_of_length-le, ◌&&◌}
 use Rattle.std.specs.Option.{option_and_then, option_map, option_map_or, unwrap_or}
 use Rattle.std.specs.List.{starts_with}
 use Rattle.std.specs.Prelude.{nat_eq}
@@ -85,10 +48,6 @@ ends_at_white text whole at within white held =
     ∙ ap (λ t. option_map (λ n. at + n) (cond t (Some 0) (option_map suc
     (name_len (starts_with nat_eq (get_or text at 0 ∷ drop (at + 1) text) (codes "{{")) (drop (at + 1) text))))) white
     ∙ ap Some same
-
--- the first part leaves less of a name
-drop_shorter : (n : ℕ) (text : List ℕ) → length (drop n text) ≤ length text
-drop_shorter n text = omega (arith, length-drop n text)
 
 -- from the start of a text
 pub from_start : (o : Option ℕ) → o ≡ option_map (λ n. 0 + n) o

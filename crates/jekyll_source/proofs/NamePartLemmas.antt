@@ -48,9 +48,7 @@ use Rattle.jekyll_source.specs.meaning.Literals.{literal}
 use Rattle.jekyll_source.specs.meaning.Names.{chain_of, enclosed, next_part, open_place, parts, parts_in, text_len, until_open}
 use Rattle.jekyll_source.specs.meaning.Splits.{Parts, after_opener, split_around}
 use Rattle.jekyll_source.proofs.PieceLemmas.{after_shorter}
-
-drop_shorter : (n : ℕ) (text : List ℕ) → length (drop n text) ≤ length text
-drop_shorter n text = omega (arith, length-drop n text)
+use Rattle.jekyll_source.proofs.Shorter.{drop_shorter}
 
 -- a text may be cut before a brace, and at its end
 pub cuts_at_brace : (text : List ℕ) (n : ℕ) → n ≤ length text → (n < length text → get_or text n 0 ≡ byte "{") → IsCharBoundary text n

@@ -64,6 +64,7 @@ use Rattle.jekyll_source.specs.declared.literals.Quote.{Quote}
 use Rattle.jekyll_source.specs.declared.literals.Quote.TheVariants.{Double, Single}
 use Rattle.jekyll_source.specs.steps.Parts.{quote_byte}
 use Rattle.jekyll_source.proofs.NameLemmas.{past}
+use Rattle.jekyll_source.proofs.Shorter.{drop_shorter}
 
 quote_is_ascii : (b : ℕ) → not (is_quote b) ≡ false → b < 128
 quote_is_ascii b e = grind (arith, nat_tests)
@@ -128,9 +129,6 @@ none_quoted text o found = rw found refl
 pub end_is_ascii : (escaped : Bool) (b : ℕ) (quote : Quote) → (not escaped && b == quote_byte quote) ≡ true → b < 128
 end_is_ascii escaped b Double e = let same : b ≡ 34 = end_is_quote escaped b 34 e in omega arith
 end_is_ascii escaped b Single e = let same : b ≡ 39 = end_is_quote escaped b 39 e in omega arith
-
-drop_shorter : (n : ℕ) (text : List ℕ) → length (drop n text) ≤ length text
-drop_shorter n text = omega (arith, length-drop n text)
 
 -- what follows a text in quotes is shorter
 quoted_shorter : (quote : ℕ) (text : List ℕ) (p : Parts) → split_quoted quote text ≡ Some p → length p.1 ≤ length text

@@ -54,6 +54,7 @@ use Rattle.jekyll_source.specs.meaning.Pieces.{
 }
 use Rattle.jekyll_source.specs.meaning.Splits.{Parts, after_opener, split_around, split_at}
 use Rattle.jekyll_source.specs.meaning.Tags.{named}
+use Rattle.jekyll_source.proofs.Shorter.{drop_shorter}
 
 -- what follows an opener is shorter
 pub after_shorter : (kind : ℕ) (text rest : List ℕ) → after_opener kind text ≡ Some rest → length rest + 2 ≡ length text
@@ -64,9 +65,6 @@ after_shorter kind (a ∷ b ∷ bs) rest e = go (a == byte "{" && b == kind) ref
     go : (t : Bool) → (a == byte "{" && b == kind) ≡ t → cond t (Some bs) None ≡ Some rest → length rest + 2 ≡ length (a ∷ b ∷ bs)
     go true is h = let same : bs ≡ rest = cc in rw (sym same) (omega arith)
     go false is h = absurd (cc)
-
-drop_shorter : (n : ℕ) (text : List ℕ) → length (drop n text) ≤ length text
-drop_shorter n text = omega (arith, length-drop n text)
 
 body_shorter : (name text : List ℕ) → length (split_body name text).1 ≤ length text
 body_shorter name text = go (bytes_eq name (codes "raw")) (bytes_eq name (codes "comment"))

@@ -14,6 +14,7 @@ use Rattle.liquid_parser.proofs.StepLemmas.{then_refused}
 use Rattle.liquid_extend.specs.meaning.Arguments.{Argument, positional, named, argument_due, argument_from, arguments_from, before}
 use Rattle.liquid_extend.specs.meaning.Arguments.{expect_colon, is_colon, is_comma, is_positional, token_expected, value_due, with_argument}
 use Rattle.liquid_extend.specs.steps.Reading.{added, argument_given, first_token, is_value_next, pair_given, value_given}
+use Rattle.liquid_parser.proofs.NextLemmas.{no_token}
 
 abbrev following : Token → List Token → Tokens
 following t more = record { following = t.following; left = more }
@@ -32,10 +33,6 @@ pub next_decides : (takes_values : Bool) (ts : List Token) (given : Token × Tok
 next_decides takes_values [] given e = cc
 next_decides takes_values (t ∷ more) given e =
     ap (λ o. elim o [ None ↦ is_value_next takes_values (t ∷ more) | Some g ↦ takes_values && not (is_colon g.0) ]) e
-
-pub no_token : (ts : List Token) → first_of ts ≡ None → ts ≡ []
-no_token [] none = refl
-no_token (t ∷ more) none = cc
 
 abbrev positional_on : Tokens → ExpressionShape → Result (Argument × Tokens) Refusal
 positional_on ts e = Ok (positional e, ts)

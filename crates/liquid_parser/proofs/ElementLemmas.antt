@@ -1,5 +1,5 @@
 -- The elements of the program, as they are returned and read.
-use Rattle.std.proofs.Common.{◌≡◌, ℕ, List, [], ◌∷◌, ◌++◌, Option, Some, None, Result, Ok, Err, Bor, refl, sym, ap, ◌∙◌, subst}
+use Rattle.std.proofs.Common.{◌≡◌, ℕ, List, [], ◌∷◌, ◌++◌, Option, None, Result, Ok, Err, Bor, refl, sym, ap, ◌∙◌, subst}
 use Rattle.std.specs.Prelude.{IfSome, codes, option_map}
 use Rattle.std.proofs.lemmas.Bool.{eqb-true}
 use Rattle.liquid_error.specs.meaning.Refusal.{Refusal, ok_then}
@@ -8,7 +8,7 @@ use Rattle.liquid_grammar.specs.declared.element.ChainText.{ChainText}
 use Rattle.liquid_grammar.specs.declared.element.Element.TheVariants as found
 use Rattle.liquid_grammar.specs.meaning.Cover.{Element, raw, tag_element, expression, invalid, text_of, IsElement}
 use Rattle.liquid_grammar.specs.meaning.Elements.{Means}
-use Rattle.liquid_grammar.specs.meaning.Faults.{Fault, tag_fault, chain_fault}
+use Rattle.liquid_grammar.specs.meaning.Faults.{tag_fault, chain_fault}
 use Rattle.liquid_grammar.specs.meaning.Grammar.{White}
 use Rattle.liquid_grammar.specs.meaning.KindMeanings.{token_kind_of}
 use Rattle.liquid_grammar.specs.meaning.Kinds.{identifier_of}
@@ -29,10 +29,7 @@ use Rattle.liquid_parser.specs.meaning.Reading.{State, Open, among, step, checke
 use Rattle.liquid_parser.specs.steps.Views.{advanced, past_escaped}
 use Rattle.liquid_parser.specs.meaning.WholeTag.{IsTag}
 use Rattle.liquid_parser.proofs.TokenLemmas.{same_rest}
-
-checked_none : (source : List ℕ) (o : Option Fault) → checked source o ≡ Ok tt → o ≡ None
-checked_none source None e = refl
-checked_none source (Some fault) e = cc
+use Rattle.liquid_parser.proofs.VariableLemmas.{checked_none}
 
 -- the text of an element
 pub raw_text : (x : RawCursor) (source following : List ℕ) (e : Element) → StandsFor (cursor.Raw x) source following e

@@ -40,12 +40,9 @@ first_rule {t = t} (more {middle = middle} m ms) =
     let rule : TokenRule m.match.middle middle t = subst (λ x. TokenRule m.match.middle middle x) (sym m.is) m.match.after in
     subst (λ p. TokenRule p (after_of t) t) (sym (rule_place rule)) (subst (λ p. TokenRule m.match.middle p t) (sym (rule_after rule)) rule)
 
-tokens_of : (t : TagTokenIter) (ts : Tokens) (a : AreTokens t ts) → Repeated (White ▷ TokenRule) t.rest.now a.tag.1.following a.tag.1.what
-tokens_of t ts a = subst (λ p. Repeated (White ▷ TokenRule) p a.tag.1.following a.tag.1.what) a.begins a.match
-
 pub cursor_tokens : (t : TagTokenIter) (ts : Tokens) (a : AreTokens t ts)
     → Repeated (White ▷ TokenRule) t.rest.now a.tag.1.following a.tag.1.what
-cursor_tokens t ts a = tokens_of t ts a
+cursor_tokens t ts a = subst (λ p. Repeated (White ▷ TokenRule) p a.tag.1.following a.tag.1.what) a.begins a.match
 
 -- the cursor is just after what came before
 pub cursor_place : (t : TagTokenIter) (ts : Tokens) → AreTokens t ts → ts.following ≡ place_in t.source.now t.rest.now
@@ -66,7 +63,7 @@ one_handed t ts text cut a f =
     let fine : first_fault token_fault (f.part ∷ f.others) ≡ None = ap (first_fault token_fault) (sym f.joined) ∙ a.fine in
     let has : HasParts text.parts text.place.now text.rest.now f.part =
     subst (λ p. HasParts text.parts text.place.now p f.part) (sym f.found.ends) f.found.has in
-    let rule = first_rule (subst (λ xs. Repeated (White ▷ TokenRule) t.rest.now a.tag.1.following xs) f.joined (tokens_of t ts a)) in
+    let rule = first_rule (subst (λ xs. Repeated (White ▷ TokenRule) t.rest.now a.tag.1.following xs) f.joined (cursor_tokens t ts a)) in
     let at_place : TokenRule text.place.now (after_of f.part) f.part =
     subst (λ p. TokenRule p (after_of f.part) f.part) (parts_place text.parts _ _ f.part has) rule in
     let following : place_in source (after_of f.part) ≡ place_in source f.middle =

@@ -1,5 +1,5 @@
 -- The next token, as what a plug-in expects.
-use Rattle.std.proofs.Common.{◌≡◌, ℕ, List, Option, None, Some, Result, Ok, Err, sym, ap, ◌∙◌, subst}
+use Rattle.std.proofs.Common.{◌≡◌, ℕ, List, [], ◌∷◌, Option, None, Some, Result, Ok, Err, refl, sym, ap, ◌∙◌, subst}
 use Rattle.std.specs.Prelude.{IfSome}
 use Rattle.liquid_error.specs.declared.error.Error.{Error}
 use Rattle.liquid_error.specs.meaning.Refusal.{Refusal, ok_then}
@@ -9,8 +9,13 @@ use Rattle.liquid_parser.specs.declared.cursor.token.TryMatchToken.{TryMatchToke
 use Rattle.liquid_parser.specs.declared.cursor.token.TryMatchToken.TheVariants.{Matches, Fails}
 use Rattle.liquid_parser.specs.declared.cursor.tokens.TagTokenIter.{TagTokenIter}
 use Rattle.liquid_parser.specs.meaning.Cursors.{HandsOutOr, IsToken, Tries, FailedToken, Takes, matched_of, next_as}
-use Rattle.liquid_parser.specs.meaning.Handed.{Token, Tokens, expect_next, or_unexpected, unexpected}
+use Rattle.liquid_parser.specs.meaning.Handed.{Token, Tokens, expect_next, first_of, or_unexpected, unexpected}
 use Rattle.liquid_parser.proofs.StepLemmas.{then_refused}
+
+-- without a first token there is none
+pub no_token : (ts : List Token) → first_of ts ≡ None → ts ≡ []
+no_token [] none = refl
+no_token (t ∷ more) none = cc
 
 -- the token is what was expected of it
 pub token_taken : {A M : Type 0} (of : A → M) (expect : Token → Option M) (t : Token) (token : TagToken) (attempt : TryMatchToken A) (x : A)

@@ -43,6 +43,7 @@ use Rattle.liquid_std.specs.meaning.conditions.ConditionsGiven.{
   operator_of,
 }
 use Rattle.liquid_std.specs.steps.conditions.Tests.{operator_in, test_from, test_given}
+use Rattle.liquid_parser.proofs.NextLemmas.{no_token}
 
 abbrev tokens : Token → List Token → Tokens
 tokens t more = record { following = t.following; left = more }
@@ -174,10 +175,6 @@ test_refused done last ts given connective o meant so_far first joins refused =
     (then_refused o (joined_on last (ok_then (test_given given.1) going_on) connective) (preceded done)
     (then_refused o (ok_then (test_given given.1) going_on) (joined_with (last, connective))
     (then_refused o (test_given given.1) going_on refused)))
-
-no_token : (ts : List Token) → first_of ts ≡ None → ts ≡ []
-no_token [] none = refl
-no_token (t ∷ more) none = cc
 
 -- where no token is left the tests that are read are all
 pub all_read : (done : List (TestShape × Connective)) (last : TestShape) (ts : List Token) (meant : Result ConditionShape Refusal)

@@ -31,6 +31,7 @@ use Rattle.liquid_parser.specs.meaning.Handed.{Token, Tokens, expect_value, firs
 use Rattle.liquid_parser.proofs.StepLemmas.{then_refused}
 use Rattle.liquid_tags.specs.meaning.Asked.{next_as}
 use Rattle.liquid_std.specs.meaning.conditions.Values.{expect_one_of, values_after, values_from, values_given}
+use Rattle.liquid_parser.proofs.NextLemmas.{no_token}
 
 module _ (separators : List (List ℕ)) where
   abbrev going_on : ExpressionShape × Tokens → Result (List ExpressionShape) Refusal
@@ -116,10 +117,6 @@ module _ (separators : List (List ℕ)) where
       ∙ ap (λ r. ok_then r (λ w. ok_then (next_as expect_value given.1) going_on)) separates)))
       (then_refused o (ok_then (next_as expect_value given.1) going_on) (λ es. Ok (done ++ es))
       (then_refused o (next_as expect_value given.1) going_on refused))
-
-  no_token : (ts : List Token) → first_of ts ≡ None → ts ≡ []
-  no_token [] none = refl
-  no_token (t ∷ more) none = cc
 
   -- where no token is left the values that are read are all
   pub all_read : (done : List ExpressionShape) (ts : List Token) (meant : Result (List ExpressionShape) Refusal) → meant ≡ read_on done ts

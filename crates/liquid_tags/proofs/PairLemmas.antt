@@ -15,6 +15,7 @@ use Rattle.liquid_parser.specs.meaning.Handed.{Token, Tokens, first_of, expect_i
 use Rattle.liquid_tags.specs.meaning.Asked.{next_as}
 use Rattle.liquid_tags.specs.meaning.CallsGiven.{colon, comma, expect_colon, expect_comma, missing_after, pair_given, pairs_given}
 use Rattle.liquid_tags.specs.meaning.Partials.{Pair}
+use Rattle.liquid_parser.proofs.NextLemmas.{no_token}
 
 abbrev following : Token → List Token → Tokens
 following t more = record { following = t.following; left = more }
@@ -161,10 +162,6 @@ pair_refused done ts given u o meant so_far first is_comma refused =
     subst (λ q. IfSome o (λ r. q ≡ Err r)) (sym (so_far ∙ ap (λ r. ok_then r (λ qs. Ok (done ++ qs)))
     (pairs_of_first ts given first ∙ ap (λ r. ok_then r (λ w. ok_then (pair_given given.1) going_on)) is_comma)))
     (then_refused o (ok_then (pair_given given.1) going_on) (λ qs. Ok (done ++ qs)) (then_refused o (pair_given given.1) going_on refused))
-
-no_token : (ts : List Token) → first_of ts ≡ None → ts ≡ []
-no_token [] none = refl
-no_token (t ∷ more) none = cc
 
 -- if no token is left, the pairs that were read are all
 pub all_read : (done : List Pair) (ts : List Token) (meant : Result (List Pair) Refusal) → meant ≡ read_on done ts → first_of ts ≡ None

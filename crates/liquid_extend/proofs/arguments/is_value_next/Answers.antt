@@ -2,7 +2,8 @@ use Rattle.std.proofs.Common.{◌≡◌, codes, sym, ap, ◌∙◌, rules}
 use Rattle.std.specs.Prelude.{◌&&◌, bytes_eq, not}
 use Rattle.liquid_extend.specs.meaning.Arguments.{is_colon}
 use Rattle.liquid_extend.specs.steps.Reading.{is_value_next}
-use Rattle.liquid_extend.proofs.ArgumentLemmas.{next_decides, no_token}
+use Rattle.liquid_extend.proofs.ArgumentLemmas.{next_decides}
+use Rattle.liquid_parser.proofs.NextLemmas.{no_token}
 use Rattle.liquid_extend.proofs.arguments.is_value_next.Goals as goal
 
 pub returns-then-takes_values : goal.returns-then-takes_values

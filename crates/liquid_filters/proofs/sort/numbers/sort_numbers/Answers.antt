@@ -1,5 +1,4 @@
-use Rattle.std.proofs.Common.{Bool, map, Result, Ok, Err, ap, ◌∙◌, rules}
-use Rattle.std.specs.Prelude.{OnOk}
+use Rattle.std.proofs.Common.{Bool, map, ap, ◌∙◌, rules}
 use Rattle.std.specs.Ordering.{is_lt}
 use Rattle.std.proofs.lemmas.Fn.{always_returns_same}
 use Rattle.std.proofs.lemmas.List.Sorted.{ranks_by}
@@ -8,11 +7,8 @@ use Rattle.liquid_filters.specs.meaning.sort.Numbered.{numbered_view}
 use Rattle.liquid_filters.specs.meaning.sort.Numbers.{has_lesser_number}
 use Rattle.liquid_filters.proofs.NumberOrder.{decimal_cmp_total, decimal_cmp}
 use Rattle.liquid_filters.proofs.StableOrder.{in_order-from_sort, in_order-map}
+use Rattle.liquid_filters.proofs.Results.{OnOk-map}
 use Rattle.liquid_filters.proofs.sort.numbers.sort_numbers.Goals as goal
-
-OnOk-map : {A E : Type 0} {P Q : Type 0} (r : Result A E) → (P → Q) → OnOk r P → OnOk r Q
-OnOk-map (Ok x) f h = f h
-OnOk-map (Err e) f h = h
 
 abbrev by_number : Numbered → Numbered → Bool
 by_number a b = is_lt (decimal_cmp a.number b.number)

@@ -1,5 +1,4 @@
-use Rattle.std.proofs.Common.{Bool, map, Result, Ok, Err, ap, ◌∙◌, rules}
-use Rattle.std.specs.Prelude.{OnOk}
+use Rattle.std.proofs.Common.{Bool, map, ap, ◌∙◌, rules}
 use Rattle.std.specs.Ordering.{is_lt}
 use Rattle.std.proofs.lemmas.Fn.{always_returns_same}
 use Rattle.std.proofs.lemmas.List.Sorted.{ranks_by}
@@ -9,11 +8,8 @@ use Rattle.liquid_filters.specs.meaning.list.Entries.{entry_view}
 use Rattle.liquid_filters.specs.meaning.sort.Order.{comes_before, key_cmp}
 use Rattle.liquid_filters.proofs.KeyOrder.{key_cmp_total}
 use Rattle.liquid_filters.proofs.StableOrder.{in_order-from_sort, in_order-map}
+use Rattle.liquid_filters.proofs.Results.{OnOk-map}
 use Rattle.liquid_jekyll.proofs.list.ordering.sort_entries.Goals as goal
-
-OnOk-map : {A E : Type 0} {P Q : Type 0} (r : Result A E) → (P → Q) → OnOk r P → OnOk r Q
-OnOk-map (Ok x) f h = f h
-OnOk-map (Err e) f h = h
 
 abbrev by_key : Entry → Entry → Bool
 by_key a b = is_lt (key_cmp (cow_view a.key) (cow_view b.key))
