@@ -6,7 +6,7 @@ use rows::{Line, holds};
 use std::test::Fail;
 
 /// The name of each filter, what it does, its parameters by position and those by keyword.
-const FILTERS: &str = r#"["absolute_url", "The text as a URL of the site.", "", ""]
+const FILTERS: &str = r#"["absolute_url", "Converts to a URL of the site.", "", ""]
 ["array_to_sentence_string", "Lists the items as in a sentence.", "connector (optional): The word before the last item, or `and`.", ""]
 ["cgi_escape", "Encodes for a URL.", "", ""]
 ["date_to_long_string", "Formats a date with the full name of its month.", "day (optional): How the day is written: `ordinal`, or as a number of two digits.; order (optional): What is first: the month with `US`, or the day.", ""]

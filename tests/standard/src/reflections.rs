@@ -8,7 +8,7 @@ use rows::holds;
 use std::test::Fail;
 
 /// The name of each filter, what it does, its parameters by position and those by keyword.
-const FILTERS: &str = r#"["abs", "The number without its sign.", "", ""]
+const FILTERS: &str = r#"["abs", "Removes the sign of a number.", "", ""]
 ["append", "Appends a string.", "text (needed): The other string.", ""]
 ["at_least", "Returns the greater of two numbers.", "number (needed): The other number.", ""]
 ["at_most", "Returns the lesser of two numbers.", "number (needed): The other number.", ""]
