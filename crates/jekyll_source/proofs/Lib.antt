@@ -1,5 +1,6 @@
 pub mod CutLemmas
 pub mod TagLemmas
+pub mod Shorter
 pub mod PieceLemmas
 pub mod BlankLemmas
 pub mod NameLemmas

@@ -1,6 +1,7 @@
 pub mod ArgumentSteps
 pub mod DateSteps
 pub mod Registering
+pub mod Results
 pub mod OwnItems
 pub mod SliceLemmas
 pub mod FirstWords

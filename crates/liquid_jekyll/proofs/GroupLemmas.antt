@@ -1,12 +1,19 @@
 -- The first keys of groups, and the members of a group.
-use Rattle.std.proofs.Common.{◌≡◌, true, false, List, [], ◌∷◌, ◌++◌, map, sym, ap, ◌∙◌, append_assoc}
+use Rattle.std.proofs.Common.{◌≡◌, true, false, List, [], ◌∷◌, ◌++◌, map, String, Global, sym, ap, ◌∙◌, append_assoc, string_bytes, string_cmp}
 use Rattle.std.specs.Borrow.{Bor}
+use Rattle.std.specs.BTreeMap.{insert_entry}
 use Rattle.std.specs.List.Sorted.{IsPermutation}
 use Rattle.liquid_value.specs.declared.value.Value.{Value}
+use Rattle.liquid_value.specs.meaning.Members.{put_member}
 use Rattle.liquid_value.specs.meaning.Tree.{Tree}
-use Rattle.liquid_value.specs.meaning.View.{view}
+use Rattle.liquid_value.specs.meaning.View.{view, members_view}
+use Rattle.liquid_value.proofs.Entries.{Entry, members_view-insert_entry}
 use Rattle.liquid_filters.specs.meaning.list.Choices.{distinct, keys_of}
 use Rattle.liquid_filters.proofs.DistinctLemmas.{is_seen, unseen, unseen-new, unseen-old, unseen-none}
+
+pub inserted : (es : List Entry) (k : String Global) (v : Value)
+    → members_view (insert_entry string_cmp es k v) ≡ put_member (string_bytes k) (view v) (members_view es)
+inserted es k v = members_view-insert_entry es k v
 
 -- before the first entry nothing was kept and nothing was seen
 pub keys-start : (kept : List (Bor Value)) (keys : List (Bor Value)) (es : List (Tree × Tree)) → kept ≡ [] → keys ≡ []

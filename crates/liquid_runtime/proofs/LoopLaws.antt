@@ -6,9 +6,14 @@ use Rattle.std.specs.Ordering.{nat_cmp}
 use Rattle.std.specs.Cmp.Lexicographic.{slice_cmp, nat_list_cmp_total}
 use Rattle.std.specs.FinMap.{get, empty, insert, get-empty, get-insert}
 use Rattle.std.proofs.lemmas.Map.Text.{is_eq-slice_cmp}
-use Rattle.std.specs.Prelude.{is_some, ◌||◌}
+use Rattle.std.specs.Prelude.{String, is_some, ◌||◌}
 use Rattle.std.specs.Cmp.{eq_by_cmp_equiv}
-use Rattle.liquid_value.specs.meaning.View.{view}
+use Rattle.std.specs.declared.alloc.Global.{Global}
+use Rattle.std.specs.String.{string_cmp}
+use Rattle.std.specs.BTreeMap.{insert_entry}
+use Rattle.liquid_value.proofs.Entries.{Entry, members_view-insert_entry}
+use Rattle.liquid_value.specs.meaning.Members.{put_member}
+use Rattle.liquid_value.specs.meaning.View.{view, members_view}
 use Rattle.liquid_value.specs.declared.value.Value.{Value}
 use Rattle.liquid_value.specs.declared.cow.ValueCow.{ValueCow}
 use Rattle.liquid_value.specs.declared.cow.ValueCow.TheVariants.{Owned, Borrowed}
@@ -61,6 +66,11 @@ two_names l q =
     ∙ some_of (bytes_eq q (string_bytes l.name)) (bytes_eq q (codes "forloop")) _ _
     ∙ ap (λ b. b || bytes_eq q (string_bytes l.name)) (turned q (codes "forloop"))
     ∙ ap (λ b. bytes_eq (codes "forloop") q || b) (turned q (string_bytes l.name))
+
+-- what is written into an object
+pub inserted : (es : List Entry) (k : String Global) (v : Value)
+    → members_view (insert_entry string_cmp es k v) ≡ put_member (string_bytes k) (view v) (members_view es)
+inserted es k v = members_view-insert_entry es k v
 
 pub in_place_stays : (value : ValueCow) → InPlace value → InPlaceOrMade value
 in_place_stays (Borrowed value) is = tt
