@@ -156,19 +156,6 @@ part_turn out new (b ∷ bs) after whole more is held = go (next_part (b ∷ bs)
         ∙ ap (λ t. option_map (λ ps. (out ++ p.0) ++ (ps ++ codes " >")) (parts t)) left
         ∙ inner p.0 (parts p.1) ∙ h
 
--- .. at a part that can't be written
-pub part_fails : (out rest : List ℕ) (whole : Option (List ℕ)) → rest ≢ []
-    → (let o : Option Parts = None in o ≡ option_map (λ p. (out ++ p.0, p.1)) (next_part rest))
-    → option_map (λ ps. out ++ (ps ++ codes " >")) (parts rest) ≡ whole → None ≡ whole
-part_fails out [] whole more is held = absurd (more refl)
-part_fails out (b ∷ bs) whole more is held = go (next_part (b ∷ bs)) is (sym (ap (option_map (λ ps. out ++ (ps ++ codes " >"))) (next_parts b bs)) ∙ held)
-  where
-    go : (o : Option Parts) → (let r : Option Parts = None in r ≡ option_map (λ p. (out ++ p.0, p.1)) o)
-        → option_map (λ ps. out ++ (ps ++ codes " >")) (option_and_then (λ p. option_map (λ ps. p.0 ++ ps) (parts p.1)) o) ≡ whole
-        → None ≡ whole
-    go None e h = h
-    go (Some p) e h = absurd (cc)
-
 -- before the first part
 pub part_start : (out new : List ℕ) (o : Option (List ℕ)) → new ≡ out ++ codes "<"
     → option_map (λ ps. new ++ (ps ++ codes " >")) o ≡ option_map (λ ps. out ++ enclosed ps) o

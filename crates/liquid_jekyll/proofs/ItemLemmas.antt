@@ -1,13 +1,12 @@
 -- Items of an array as trees.
-use Rattle.std.proofs.Common.{◌≡◌, ℕ, ◌-◌, ◌≤◌, List, [], map, length, take, drop, sym, ap, ◌∙◌, arith}
+use Rattle.std.proofs.Common.{◌≡◌, ℕ, ◌-◌, List, map, length, take, drop, sym, ap, ◌∙◌, arith}
 use Rattle.std.specs.List.{drop-map, take-map}
-use Rattle.std.proofs.lemmas.List.{drop_all, length-drop, length-map, take_all}
+use Rattle.std.proofs.lemmas.List.{length-drop, length-map, take_all}
 use Rattle.liquid_value.specs.declared.value.Value.{Value}
 use Rattle.liquid_value.specs.meaning.Tree.{Tree}
 use Rattle.liquid_value.specs.meaning.View.{view, items_view}
 use Rattle.liquid_filters.specs.meaning.value.Items.{own_items}
 use Rattle.liquid_jekyll.specs.declared.value.lists.End.{End}
-use Rattle.liquid_jekyll.specs.declared.value.lists.End.TheVariants.{First, Last}
 use Rattle.liquid_jekyll.specs.meaning.value.Lists.{without}
 use Rattle.liquid_filters.proofs.OwnItems.{own_items_of}
 
@@ -16,13 +15,6 @@ pub items_cut : (end : End) (n : ℕ) (xs : List Value) → without end n (own_i
 items_cut end n xs = ap (without end n) (own_items_of (map view xs))
 
 module _ {A : Type 0} (f : A → Tree) (xs : List A) (n : ℕ) where
-  -- nothing is left of fewer items than are left out
-  pub none_kept : (end : End) → length xs ≤ n → [] ≡ without end n (map f xs)
-  none_kept First past = sym (drop_all n (map f xs) (omega (arith, length-map xs f)))
-  none_kept Last past =
-      let none : length (map f xs) - n ≡ 0 = omega (arith, length-map xs f) in
-      sym (ap (λ k. take k (map f xs)) none)
-
   pub first_cut : map f (take (length xs - n) (drop n xs)) ≡ drop n (map f xs)
   first_cut =
       ap (map f) (take_all (length xs - n) (drop n xs) (omega (arith, length-drop n xs))) ∙ sym (drop-map f n xs)

@@ -55,11 +55,6 @@ pub count_step : (test : ℕ → Bool) (c : ℕ) (cs : List ℕ) (in_run : Bool)
     → (count + cond (test c && not in_run) 1 0) + run_count test cs ≡ total + counted (test c) test cs
 count_step test c cs in_run count total = count_cases (test c) in_run (begins test cs) (run_count test cs) count total
 
-pub count_end : (test : ℕ → Bool) (in_run : Bool) (count total : ℕ)
-    → count + run_count test [] ≡ total + counted in_run test [] → count ≡ total
-count_end test true count total h = omega (arith, h)
-count_end test false count total h = omega (arith, h)
-
 -- a string has at most as many characters as bytes
 pub chars_fit : (bs : List ℕ) → IsUtf8 bs → length (chars bs) ≤ length bs
 chars_fit bs u = omega (arith, length-le-encodes (chars bs), ap length (encodes-chars bs u))

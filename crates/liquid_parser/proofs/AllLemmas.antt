@@ -43,10 +43,6 @@ use Rattle.liquid_parser.specs.meaning.BlockReading.{
 }
 use Rattle.liquid_parser.specs.meaning.Lang.{Lang}
 
-in_front_none : {N : Type 0} (a : Result (List N × List Element) Refusal) → in_front [] a ≡ a
-in_front_none (Ok p) = refl
-in_front_none (Err r) = refl
-
 in_front_twice : {N : Type 0} (xs ys : List N) (a : Result (List N × List Element) Refusal)
     → in_front xs (in_front ys a) ≡ in_front (xs ++ ys) a
 in_front_twice xs ys (Ok p) = ap (λ zs. Ok (zs, p.1)) (sym (append_assoc xs ys p.0))
@@ -88,15 +84,6 @@ module _ {F T P B : Type 0} (l : Lang F T P B) (source end_name : List ℕ) (out
   abbrev pub Onward : List ℕ → Bool → List ℕ → List (NodeShape F T B) → Type 0
   Onward text closed rest done =
       (es : List Element) → Cover text es → (left : List Element) × Cover rest left × Progress closed es left done
-
-  pub Onward-begin : (text : List ℕ) (closed : Bool) (done : List (NodeShape F T B)) → closed ≡ false → done ≡ []
-      → Onward text closed text done
-  Onward-begin text closed done is_open none es c = (
-    es,
-    c,
-    subst (λ b. Progress b es es done) (sym is_open) (λ a h. subst (λ d. AllRead l source end_name outside es (in_front d a)) (sym none)
-        (subst (λ x. AllRead l source end_name outside es x) (sym (in_front_none a)) h)),
-  )
 
   pub Onward-node : (text rest rest' : List ℕ) (closed closed' : Bool) (done done' : List (NodeShape F T B)) (n : NodeShape F T B)
       → Onward text closed rest done → closed ≡ false → closed' ≡ false → done' ≡ done ++ n ∷ []

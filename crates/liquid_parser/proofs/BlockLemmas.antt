@@ -1,9 +1,8 @@
 -- What the cursor over a block's elements returns.
-use Rattle.std.proofs.Common.{◌≡◌, ℕ, true, List, [], ◌∷◌, Option, Some, None, Result, Ok, Err, sym, ap, ◌∙◌, subst}
+use Rattle.std.proofs.Common.{◌≡◌, ℕ, true, List, ◌∷◌, Option, Some, None, Result, Ok, Err, sym, ap, ◌∙◌, subst}
 use Rattle.std.specs.Prelude.{IfSome, if◌then◌else◌, bytes_eq}
 use Rattle.liquid_error.specs.meaning.Refusal.{Refusal, ok_then}
-use Rattle.liquid_grammar.specs.meaning.Cover.{Element, raw, tag_element, expression, invalid, IsElement, Cover, done}
-use Rattle.liquid_grammar.proofs.CoverLemmas.{cover_of}
+use Rattle.liquid_grammar.specs.meaning.Cover.{Element, raw, tag_element, expression, invalid, IsElement, Cover}
 use Rattle.liquid_grammar.specs.meaning.Tokens as token
 use Rattle.liquid_parser.specs.declared.cursor.element.BlockElement.TheVariants as cursor
 use Rattle.liquid_parser.specs.declared.cursor.tag.Tag.{Tag}
@@ -12,7 +11,6 @@ use Rattle.liquid_parser.specs.meaning.ElementReading.{element_checked}
 use Rattle.liquid_parser.specs.meaning.Elements.{StandsFor}
 use Rattle.liquid_parser.specs.meaning.Handed.{handed, expect_nothing}
 use Rattle.liquid_parser.specs.meaning.Plugins.{AreTokens}
-use Rattle.liquid_parser.specs.meaning.Reading.{unclosed_by}
 use Rattle.liquid_parser.proofs.EscapeLemmas.{taken}
 
 -- an element that is an end tag, or is not
@@ -49,20 +47,6 @@ module _ (source end_name place following : List ℕ) (e : Element) (es : List E
           → IfSome o (λ r. handed_out source end_name es ≡ Err r)
       go None is h = tt
       go (Some r) is h = ap (handed_out source end_name) is ∙ ap (λ x. ok_then x (λ _. or_end source end_name e)) h
-
--- no element is left
-pub none_out : (source end_name place : List ℕ) (es : List Element) (o : Option Refusal) → place ≡ [] → Cover place es
-    → IfSome o (λ r. r ≡ unclosed_by source end_name)
-    → IfSome o (λ r. handed_out source end_name es ≡ Err r) × Cover place (following_first es)
-none_out source end_name place es o empty c h =
-    let only = cover_of [] in
-    let none : es ≡ [] = only.only es (subst (λ x. Cover x es) empty c) ∙ sym (only.only [] done) in
-    (go o none h, subst (λ xs. Cover place (following_first xs)) (sym none) (subst (λ x. Cover x []) (sym empty) done))
-  where
-    go : (o : Option Refusal) → es ≡ [] → IfSome o (λ r. r ≡ unclosed_by source end_name)
-        → IfSome o (λ r. handed_out source end_name es ≡ Err r)
-    go None is h = tt
-    go (Some r) is h = ap (handed_out source end_name) is ∙ ap (λ x. Err x) (sym h)
 
 -- a result after an equal one
 pub same_fault : {A : Type 0} (o : Option Refusal) (m n : Result A Refusal) → m ≡ n → IfSome o (λ r. n ≡ Err r) → IfSome o (λ r. m ≡ Err r)

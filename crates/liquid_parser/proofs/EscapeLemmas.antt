@@ -1,29 +1,9 @@
 -- Escaped bodies, element by element.
-use Rattle.std.proofs.Common.{
-  ◌≡◌,
-  ℕ,
-  Bool,
-  List,
-  [],
-  ◌∷◌,
-  ◌++◌,
-  Option,
-  Some,
-  None,
-  Result,
-  Ok,
-  Err,
-  append_assoc,
-  refl,
-  sym,
-  ap,
-  ◌∙◌,
-  subst,
-}
+use Rattle.std.proofs.Common.{◌≡◌, ℕ, Bool, List, [], ◌∷◌, ◌++◌, Option, Some, None, Result, Ok, Err, append_assoc, refl, sym, ap, ◌∙◌}
 use Rattle.std.specs.Prelude.{IfSome}
 use Rattle.std.specs.Option.{option_map_or}
 use Rattle.liquid_error.specs.meaning.Refusal.{Refusal, ok_then}
-use Rattle.liquid_grammar.specs.meaning.Cover.{Element, text_of, IsElement, Cover, done, next, joined}
+use Rattle.liquid_grammar.specs.meaning.Cover.{Element, text_of, IsElement, Cover, next, joined}
 use Rattle.liquid_grammar.proofs.CoverLemmas.{cover_of}
 use Rattle.liquid_plugins.specs.meaning.Nodes.{NodeShape}
 use Rattle.liquid_parser.specs.meaning.Lang.{Lang, escaped}
@@ -51,9 +31,6 @@ taken rest following e left is c =
     record { others = o.elements; is = r.only left c ∙ sym (r.only (e ∷ o.elements) (next is o.cover)); cover = o.cover }
 
 module _ (body end_name start_name : List ℕ) (nests : Bool) where
-  pub going_first : Going body end_name start_name nests body 0
-  going_first = record { so_far = []; whole = refl; onward = λ es c. (es, c, refl) }
-
   pub going_next : (rest following : List ℕ) (e : Element) (level level' : ℕ) → Going body end_name start_name nests rest level
       → IsElement rest following e
       → level_after end_name start_name nests level e ≡ Some level' → Going body end_name start_name nests following level'
@@ -92,15 +69,6 @@ module _ (body end_name start_name : List ℕ) (nests : Bool) where
       → IsElement rest following e → (front : List ℕ) × (body ≡ front ++ following)
   going_after rest following e level g is =
       (g.so_far ++ text_of e, g.whole ∙ (ap (λ r. g.so_far ++ r) is.joined ∙ sym (append_assoc g.so_far (text_of e) following)))
-
-  -- no end
-  pub going_none : (rest : List ℕ) (level : ℕ) → Going body end_name start_name nests rest level → rest ≡ [] → (es : List Element)
-      → Cover body es → escape end_name start_name nests 0 [] es ≡ None
-  going_none rest level g empty es c =
-      let w = g.onward es c in
-      let r = cover_of [] in
-      let none : w.0 ≡ [] = r.only w.0 (subst (λ x. Cover x w.0) empty w.1) ∙ sym (r.only [] done) in
-      w.2 ∙ ap (escape end_name start_name nests level g.so_far) none
 
 -- a reading that continues after each element continues after the end of an escaped body
 module _ {F T P B A : Type 0} (l : Lang F T P B) (source : List ℕ) (outside : ℕ) (k : State F T P B → List Element → Result A Refusal)

@@ -32,19 +32,7 @@ use Rattle.liquid_grammar.specs.meaning.Meanings.{literal_of}
 use Rattle.liquid_scalar.specs.meaning.Scalar.{integer, boolean, text, date, date_time}
 use Rattle.liquid_value.specs.meaning.Tree.{Tree}
 use Rattle.liquid_plugins.specs.meaning.Expression.{ExpressionShape, literal, variable, no_indexes, index, as_literal}
-use Rattle.liquid_parser.specs.meaning.Handed.{
-  Token,
-  chain,
-  call_of,
-  handed_token,
-  expression_meant,
-  literal_tree,
-  value_of,
-  as_identifier,
-  expect_value,
-  expect_identifier,
-  expect_literal,
-}
+use Rattle.liquid_parser.specs.meaning.Handed.{Token, chain, call_of, handed_token, expression_meant, literal_tree, value_of, as_identifier, expect_value, expect_literal}
 use Rattle.liquid_parser.proofs.Indexes.{first_none}
 
 pub is_value_kind : Kind → Bool
@@ -134,14 +122,6 @@ unfolding literal_of_kind
 value_literal (literal_value p b l) = refl
 value_literal (variable_value p b n no_index) = refl
 value_literal (variable_value p b n (more_indexes i is)) = refl
-
-pub value_expected : (place : List ℕ) (handed : Token) (k : Kind) (is : IsValue place handed k)
-    → expect_value handed ≡ Some (expression_meant is.value)
-value_expected place handed k is = ap value_of is.is
-
-pub identifier_expected : (place : List ℕ) (handed : Token) (k : Kind) → IsValue place handed k → expect_identifier handed ≡ identifier_of k
-identifier_expected place handed k is =
-    ap (λ s. option_and_then as_identifier (value_of s)) is.is ∙ (value_identifier is.value ∙ ap identifier_of (sym is.kind_is))
 
 pub literal_expected : (place : List ℕ) (handed : Token) (k : Kind) → IsValue place handed k
     → expect_literal handed ≡ option_map literal_tree (literal_of_kind k)

@@ -8,7 +8,7 @@ use Rattle.liquid_grammar.specs.declared.parts.TokenParts.TheVariants as parts
 use Rattle.liquid_grammar.specs.meaning.Faults.{token_fault, first_fault}
 use Rattle.liquid_grammar.specs.meaning.Grammar.{White}
 use Rattle.liquid_grammar.specs.meaning.Parts as part
-use Rattle.liquid_grammar.specs.meaning.Parts.{NoneLeft, First, HasParts}
+use Rattle.liquid_grammar.specs.meaning.Parts.{First, HasParts}
 use Rattle.liquid_grammar.specs.meaning.Rules.{Repeated, more, ◌▷◌}
 use Rattle.liquid_grammar.specs.meaning.Tokens as token
 use Rattle.liquid_grammar.specs.meaning.Tokens.{range, chain, symbol, TokenRule}
@@ -43,15 +43,6 @@ first_rule {t = t} (more {middle = middle} m ms) =
 pub cursor_tokens : (t : TagTokenIter) (ts : Tokens) (a : AreTokens t ts)
     → Repeated (White ▷ TokenRule) t.rest.now a.tag.1.following a.tag.1.what
 cursor_tokens t ts a = subst (λ p. Repeated (White ▷ TokenRule) p a.tag.1.following a.tag.1.what) a.begins a.match
-
--- the cursor is just after what came before
-pub cursor_place : (t : TagTokenIter) (ts : Tokens) → AreTokens t ts → ts.following ≡ place_in t.source.now t.rest.now
-cursor_place t ts a = ap (λ x. Tokens.following x) a.is ∙ ap (place_in t.source.now) a.begins
-
--- no token is left
-pub none_handed : (t : TagTokenIter) (ts : Tokens) (a : AreTokens t ts) → NoneLeft t.rest.now a.tag.1.following a.tag.1.what
-    → next ts ≡ None
-none_handed t ts a n = ap (λ x. first_of (Tokens.left x)) a.is ∙ ap (λ xs. first_of (map (handed_token t.source.now) xs)) n.none
 
 -- a token is returned
 pub one_handed : (t : TagTokenIter) (ts : Tokens) (text : TokenText) → text.place.now ≡ text.text.now ++ text.rest.now

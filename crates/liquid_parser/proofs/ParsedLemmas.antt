@@ -79,14 +79,6 @@ module _ {F T P B : Type 0} (l : Lang F T P B) (source end_name : List ℕ) (out
           subst (λ s. node_read l s outside s between.rest.now out.0 (following_first es) ≡ Err r) same h in
           next_element es out.0 between.rest.now out.1 c ∙ ap (λ q. ok_then q (λ p. Ok (Some p.0, p.1))) here
 
-  pub next_end : (es : List Element) → handed_out source end_name es ≡ Ok None
-      → next_read l source end_name outside es ≡ Ok (None, following_first es)
-  next_end es out = ap (λ r. ok_then r (λ found. element_or_end l source end_name outside found (following_first es))) out
-
-  pub next_fault : (o : Option Refusal) (es : List Element) → IfSome o (λ r. handed_out source end_name es ≡ Err r)
-      → IfSome o (λ r. next_read l source end_name outside es ≡ Err r)
-  next_fault o es h = then_refused o _ (λ found. element_or_end l source end_name outside found (following_first es)) h
-
 -- one cursor further on than another
 pub passes_on : (a b c : TagBlock) → Passes a b → Passes b c → Passes a c
 passes_on a b c p q = record {

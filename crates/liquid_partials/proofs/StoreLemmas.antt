@@ -95,20 +95,10 @@ module _ {A : Type 0} (finds : NameMap (Result A Refusal)) (name : List ℕ) whe
   IsFault r (Ok o) = ⊥
   IsFault r (Err q) = r ≡ q
 
-  tree_there : (o : Option (Result A Refusal)) (x : A) → IsTree x (tried_as o) → o ≡ Some (Ok x)
-  tree_there None x h = absurd h
-  tree_there (Some (Ok y)) x h = ap (λ z. Some (Ok z)) (sym h)
-  tree_there (Some (Err r)) x h = absurd h
-
   none_there : (o : Option (Result A Refusal)) → IsNothing (tried_as o) → o ≡ None
   none_there None h = refl
   none_there (Some (Ok y)) h = absurd h
   none_there (Some (Err r)) h = absurd h
-
-  fault_there : (o : Option (Result A Refusal)) (r : Refusal) → IsFault r (tried_as o) → o ≡ Some (Err r)
-  fault_there None r h = absurd h
-  fault_there (Some (Ok y)) r h = absurd h
-  fault_there (Some (Err q)) r h = ap (λ z. Some (Err z)) (sym h)
 
   pub found_none : tried finds name ≡ Ok None → get finds name ≡ None
   found_none e = none_there (get finds name) (subst IsNothing (sym e) tt)

@@ -87,11 +87,6 @@ own_trees array = ap trees (items-Own array) ∙ trees_of (map view array.items)
 pub shared_trees : (array : Rc (Vec Value) Global) → trees (array_view (Shared array)) ≡ map view array.value.items
 shared_trees array = ap trees (items-Shared array) ∙ trees_of (map view array.value.items)
 
--- the first of that many numbers, and those after it
-counted_first : (from : ℤ) (size following : ℕ) → size ≡ following + 1 → counted from size ≡ scalar (integer from)
-    ∷ counted (from +ℤ pos 1) following
-counted_first from size following e = ap (counted from) (e ∙ add-one following)
-
 pub no_number : (from : ℤ) (size : ℕ) → size < 1 → counted from size ≡ []
 no_number from size below = let none : size ≡ 0 = omega arith in ap (counted from) none
 

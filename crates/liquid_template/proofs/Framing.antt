@@ -92,10 +92,6 @@ module _ {Reg : Type 0} where
       → RendersWithin r v (ungated b) (ungated a) x answer → Renders r v b a x answer
   without_gate r v x b a answer h = record { outcome = h.outcome; frames = h.frames; pours = h.pours }
 
-  pub within_no_gate : (r : Run Reg) (v x : View Reg) (b a : Sunk) (answer : Result (Unit {0}) Error) → Renders r v b a x answer
-      → RendersWithin r v (ungated b) (ungated a) x answer
-  within_no_gate r v x b a answer h = record { outcome = h.outcome; frames = h.frames; pours = h.pours }
-
 pub ruleset framing = (renders_framed, framed_kept, renders_memory, opened_restored)
 
 told_same : (t : Option Refusal) → IfSome t (λ refusal. option_map (refused_through None) t ≡ Some refusal)

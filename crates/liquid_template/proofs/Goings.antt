@@ -1,5 +1,5 @@
 -- The result of each turn of a node, as the cycle continues with it.
-use Rattle.std.proofs.Common.{Bool, true, false, is_ok, is_some, ◌≡◌, ℕ, suc, ◌-◌, ◌<◌, List, [], ◌∷◌, length, Option, Some, None, inl}
+use Rattle.std.proofs.Common.{Bool, true, false, is_ok, is_some, ◌≡◌, ℕ, suc, ◌-◌, ◌<◌, List, [], ◌∷◌, Option, Some, None, inl}
 use Rattle.std.proofs.Common.{inr, Result, Ok, Err, refl, sym, ap, subst, ◌∙◌, option_map}
 use Rattle.std.specs.Prelude.{IfOk, IfSome, OnSome, IsOk, IsErrAnd, MatchOption}
 use Rattle.std.proofs.lemmas.List.{append-nil}
@@ -10,7 +10,7 @@ use Rattle.liquid_error.specs.meaning.Helpers.{ErrBecomes}
 use Rattle.liquid_runtime.specs.meaning.View.{View}
 use Rattle.liquid_runtime.specs.meaning.Written.{with_written, SameFrames}
 use Rattle.liquid_runtime.specs.meaning.Frames.{FrameShape, Restore, beginning, restored_by}
-use Rattle.liquid_runtime.specs.meaning.OpenFrames.{opened, EndsFirst}
+use Rattle.liquid_runtime.specs.meaning.OpenFrames.{EndsFirst}
 use Rattle.liquid_plugins.specs.meaning.Turns.{text_turn, body_turn, partial_turn, capture_turn, end_turn, NodeMeaning}
 use Rattle.liquid_plugins.specs.meaning.Nodes.{NodeShape, Nodes, no_nodes, node}
 use Rattle.liquid_template.specs.meaning.Run.{Run, Action, pieces}
@@ -25,14 +25,14 @@ use Rattle.liquid_template.specs.steps.NodeTurns.{Answer, Begins, SaysSame}
 use Rattle.liquid_template.specs.steps.Going.{Ends, Goes, Opens, Captures, Captured, Finds, Takes}
 use Rattle.liquid_template.specs.steps.Place.{TurnAsked}
 use Rattle.liquid_template.specs.steps.Sought.{store_answer}
-use Rattle.liquid_template.proofs.Framing.{renders_framed, framed_kept, renders_memory, opened_restored}
+use Rattle.liquid_template.proofs.Framing.{renders_framed, framed_kept, renders_memory}
 use Rattle.liquid_template.proofs.Joins.{renders_done, renders_refused}
 use Rattle.liquid_template.proofs.Steps.{start_refused, taken, asked_first, asked_refused, turn_refused, turn_ends, turn_more, turn_fails}
 use Rattle.liquid_template.proofs.Steps.{capture_more, capture_fails}
 use Rattle.liquid_template.proofs.Capturing.{renders_silent, text_silent}
 use Rattle.liquid_template.proofs.Passing.{passes_none}
 use Rattle.liquid_template.proofs.Pouring.{pours_nothing, pours_refused}
-use Rattle.liquid_template.proofs.Renderings.{turns_done_at, list_fails_at, list_stops_at, list_goes_at, list_done_at, turn_puts, true-not-false}
+use Rattle.liquid_template.proofs.Renderings.{turns_done_at, list_fails_at, list_stops_at, list_goes_at, list_done_at, turn_puts}
 use Rattle.liquid_template.proofs.Renderings.{turn_bodies, turn_captures, turn_includes, if_then, deep_is, more_is}
 use Rattle.std.proofs.lemmas.Option.{none-some}
 
@@ -51,13 +51,6 @@ ok_is (Err e) h = absurd (false-not-true h)
 pub renders_ok : {Reg : Type 0} (r : Run Reg) (v w : View Reg) (b a : Output) (answer : Answer) → IsOk answer
     → RendersWithin r v b a w (Ok tt) → RendersWithin r v b a w answer
 renders_ok r v w b a answer h x = subst (λ y. RendersWithin r v b a w y) (sym (ok_is answer h)) x
-
-becomes_twice : (change : Refusal → Refusal) (o p q : Option Refusal) → IfSome p (λ r. option_map (λ x. x) o ≡ Some r)
-    → IfSome q (λ r. option_map change p ≡ Some r) → IfSome q (λ r. option_map change o ≡ Some r)
-becomes_twice change o p None h k = tt
-becomes_twice change o None (Some r) h k = absurd (none-some r k)
-becomes_twice change None (Some x) (Some r) h k = absurd (none-some x h)
-becomes_twice change (Some y) (Some x) (Some r) h k = subst (λ z. option_map change z ≡ Some r) (sym h) k
 
 -- a refusal that another error says too
 pub said_again : {A : Type 0} (meant : Result A Refusal) (o p : Option Refusal) → IfSome p (λ r. option_map (λ x. x) o ≡ Some r)
@@ -90,14 +83,6 @@ says_same r v w b a (Err e) (Err f) h x =
       frames = x.frames;
       pours = record { grows = x.pours.grows; lent = x.pours.lent; text = tt };
     }
-
--- a refusal is changed twice
-pub changed_twice : {T : Type 0} (change : Refusal → Refusal) (first second third : Result T Error) → ErrBecomes (λ r. r) first second
-    → ErrBecomes change second third → ErrBecomes change first third
-changed_twice change (Ok x) second third h k = subst (λ y. ErrBecomes change y third) h k
-changed_twice change (Err e) (Ok x) third h k = absurd h
-changed_twice change (Err e) (Err f) (Ok x) h k = absurd k
-changed_twice change (Err e) (Err f) (Err g) h k = becomes_twice change (told e) (told f) (told g) h k
 
 -- nothing was written
 pub done_ok : {Reg : Type 0} (v : View Reg) (b : Output) (answer : Answer) → IsOk answer → RendersWithin (done v) v b b v answer
@@ -354,13 +339,6 @@ module _ {Reg F T P B Q : Type 0} (s : Setting Reg F T P B Q) (depth : ℕ) wher
     opens_taken answer (Err f) false e t h =
         λ k. o.fails parts k d y f (renders_framed s.fresh o.frame trace (inner parts) o.from w x y rs rs1 rs2 rs3 c d answer
         (Err f) o.opens o.owes same ends t h)
-
-  -- a captured turn's frame is open until it is ended
-  pub captures_open : {N R : Type 0} (m : NodeMeaning N R Reg) (n : N) (p q : R) (v w : View Reg) (b c : Output) (trace : Option (List ℕ))
-      (inner : List (Action Reg) → Action Reg) (rs rs1 rs2 : List (Restore Reg)) → Captures s depth m n p q v w b c trace inner rs rs1
-      → rs2 ≡ rs1 → 0 < length (opened rs2)
-  captures_open m n p q v w b c trace inner rs rs1 rs2 o same =
-      subst (λ z. 0 < length (opened z)) (sym (same ∙ o.owes)) (opened_restored o.frame o.from rs)
 
   module _ {N R : Type 0} (m : NodeMeaning N R Reg) (n : N) (parts : List (Action Reg)) (p q z : R) (v w y : View Reg) (b c d : Output)
       (trace : Option (List ℕ)) (inner : List (Action Reg) → Action Reg) (rs rs1 rs3 : List (Restore Reg)) (answer : Answer) (result : Bool)

@@ -1,9 +1,7 @@
 -- What is kept by several calls in order.
-use Rattle.std.proofs.Common.{◌≡◌, ℕ, ◌<◌, List, Option, Ok, true, false, refl, sym, ap, ◌∙◌, option_map, arith}
-use Rattle.liquid_runtime.specs.meaning.View.{View}
-use Rattle.liquid_runtime.specs.meaning.Frames.{FrameShape}
-use Rattle.liquid_plugins.specs.meaning.Turns.{NodeMeaning, partial_turn}
-use Rattle.liquid_template.specs.meaning.Opens.{OpenNone, OpensNone, opens_partial}
+use Rattle.std.proofs.Common.{◌≡◌, ℕ, ◌<◌, Option, refl, ap, ◌∙◌, option_map, arith}
+use Rattle.liquid_plugins.specs.meaning.Turns.{NodeMeaning}
+use Rattle.liquid_template.specs.meaning.Opens.{OpenNone, OpensNone}
 use Rattle.liquid_template.specs.meaning.Partials.{Found}
 use Rattle.liquid_template.specs.steps.Keeps.{Keeps}
 
@@ -41,14 +39,6 @@ pub keeps_unless : {A S F T B L Unopened Other : Type 0} (store : S → Option A
     (a b : S) → (Other → Unopened) → Keeps Unopened store lent finds depth a b → Keeps Other store lent finds depth a b
 keeps_unless store lent finds depth a b f p =
     record { store_finds = p.store_finds; unasked = p.unasked; unopened = λ n. p.unopened (f n); borrows = p.borrows }
-
-true_not_false : true ≡ false → ⊥
-true_not_false e = absurd (cc)
-
--- a turn that opens a partial is one of nodes that open some
-pub opens_one : {N P Reg : Type 0} (m : NodeMeaning N P Reg) (n : N) (p : P) (v : View Reg) (name : List ℕ) (frame : FrameShape)
-    (trace : Option (List ℕ)) → (m.takes n p v).answer ≡ Ok (partial_turn name frame trace) → OpensNone m → ⊥
-opens_one m n p v name frame trace is none = true_not_false (sym (ap opens_partial is) ∙ none n p v)
 
 -- tags and blocks of which no turn opens one
 pub tags_open_none : {T P B Q Reg : Type 0} (tags : NodeMeaning T P Reg) (blocks : NodeMeaning B Q Reg) → OpenNone tags blocks

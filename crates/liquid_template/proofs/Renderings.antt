@@ -1,41 +1,6 @@
 -- The results that the renderer returns, given what a list, a node or a turn is.
 use Rattle.std.proofs.lemmas.Bool.{false_from_ne_true}
-use Rattle.std.proofs.Common.{
-  Bool,
-  ◌↔◌,
-  ◌≡◌,
-  ℕ,
-  zero,
-  suc,
-  ◌+◌,
-  ◌-◌,
-  ◌<◌,
-  ◌≤◌,
-  List,
-  [],
-  ◌∷◌,
-  length,
-  get_or,
-  true,
-  false,
-  is_some,
-  Option,
-  Some,
-  None,
-  Result,
-  Ok,
-  Err,
-  IfSome,
-  refl,
-  sym,
-  ap,
-  subst,
-  ◌∙◌,
-  inl,
-  inr,
-  arith,
-  sub-one,
-}
+use Rattle.std.proofs.Common.{Bool, ◌↔◌, ◌≡◌, ℕ, zero, suc, ◌+◌, ◌-◌, ◌<◌, ◌≤◌, List, [], ◌∷◌, length, get_or, true, false, is_some, Option, Some, None, Result, Ok, Err, IfSome, refl, sym, ap, subst, inl, inr, arith, sub-one}
 use Rattle.std.specs.declared.alloc.Global.{Global}
 use Rattle.std.specs.declared.vec.Vec.{Vec}
 use Rattle.liquid_error.specs.declared.error.Error.{Error}
@@ -261,23 +226,3 @@ module _ {Reg F T P B Q : Type 0} (s : Setting Reg F T P B Q) where
   unfolding partials_at
   more_is zero name h = absurd (omega arith)
   more_is (suc depth) name h = rw sub-one (sought_is s.finds name (nodes_run s depth))
-
-  pub found_deep : (depth : ℕ) (name : List ℕ) (v : View Reg) (b : Output) (e : Error) → depth ≡ 0 → IfSome (told e) (λ r. r ≡ too_deep)
-      → RendersWithin (partials_at s depth name v) v b b v (Err e)
-  found_deep depth name v b e h i =
-      renders_refused (partials_at s depth name v) v v b e (if_then (told e)
-      (λ r j. ap (λ k. k v) (deep_is depth name h) ∙ ap (λ x. refuses x v) (sym j)) i) refl
-
-  pub found_fails : (depth : ℕ) (name : List ℕ) (v w : View Reg) (b : Output) (e : Error) → 0 < depth
-      → IfSome (told e) (λ r. store_answer s.finds name ≡ Err r) → w ≡ v → RendersWithin (partials_at s depth name v) v b b w (Err e)
-  found_fails depth name v w b e h i same = subst (λ x. RendersWithin (partials_at s depth name v) v b b x (Err e)) (sym same)
-      (renders_refused (partials_at s depth name v) v v b e (if_then (told e)
-      (λ r j. ap (λ k. k v) (more_is depth name h) ∙ ap (λ x. read_as x (nodes_run s (depth - 1)) v) j) i) refl)
-
-  pub found_goes : (depth : ℕ) (name : List ℕ) (v v1 w : View Reg) (ns : Nodes F T B) (b a : Output) (answer : Answer) → 0 < depth
-      → store_answer s.finds name ≡ Ok ns → v1 ≡ v → RendersWithin (nodes_run s (depth - 1) ns v1) v1 b a w answer
-      → RendersWithin (partials_at s depth name v) v b a w answer
-  found_goes depth name v v1 w ns b a answer h e same x =
-      subst (λ r. RendersWithin r v b a w answer) (sym (ap (λ k. k v) (more_is depth name h)
-      ∙ ap (λ y. read_as y (nodes_run s (depth - 1)) v) e))
-      (subst (λ u. RendersWithin (nodes_run s (depth - 1) ns u) u b a w answer) same x)
