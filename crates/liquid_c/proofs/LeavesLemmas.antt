@@ -1,7 +1,35 @@
 -- From how a page ended to what a call leaves with its caller.
-use Rattle.std.proofs.Common.{◌≡◌, ℕ, ◌≤◌, ◌⊎◌, inl, inr, List, [], ◌++◌, length, min, take, drop, nat_le, Option, None, Some, Result, Ok, Err, if◌then◌else◌, refl, sym, subst, arith}
-use Rattle.std.specs.Prelude.{MatchOption, IfSome, option_map}
+use Rattle.std.proofs.Common.{
+  ◌≡◌,
+  ℕ,
+  ◌≤◌,
+  ◌⊎◌,
+  inl,
+  inr,
+  List,
+  [],
+  ◌++◌,
+  length,
+  min,
+  take,
+  drop,
+  nat_le,
+  Option,
+  None,
+  Some,
+  Result,
+  Ok,
+  Err,
+  if◌then◌else◌,
+  true≢false,
+  refl,
+  sym,
+  subst,
+  arith,
+}
+use Rattle.std.specs.Prelude.{MatchOption, IfSome, IsNone, option_and_then, option_map}
 use Rattle.liquid_error.specs.declared.place.Place.{Place}
+use Rattle.liquid_error.specs.declared.error.Error.{Error}
 use Rattle.liquid_error.specs.meaning.ErrorText.{error_text}
 use Rattle.liquid_error.specs.meaning.Refusal.{Refusal}
 use Rattle.liquid_error.specs.meaning.Told.{told}
@@ -45,6 +73,50 @@ Rendered r o = (o.kind ≡ 2) × (IfSome r.place (λ place. IsPlaced (Some place
 
 abbrev pub OfGlobals : Refusal → Outcome → Type 0
 OfGlobals r o = (o.kind ≡ 4) × ((IsPlaced None o × IsUnnamed o) × (o.limit ≡ 0))
+
+pub memory_refuses : (Q : Refusal → Outcome → Type 0) (t : Option Refusal) (o : Outcome) → IsNone t → OutOfMemory o → Refuses Q t o
+memory_refuses Q None o none memory = memory
+memory_refuses Q (Some r) o none memory = absurd (true≢false none)
+
+pub unread_refuses : (t : Option Refusal) (o : Outcome) (place : Option Place) → ¬ (IsNone t)
+    → place ≡ option_and_then (λ r. r.place) t → o.kind ≡ 1 → IsPlaced place o → IsUnnamed o → o.limit ≡ 0 → Refuses Unread t o
+unread_refuses None o place some is kind placed unnamed limit = absurd (some refl)
+unread_refuses (Some r) o place some is kind placed unnamed limit =
+    (kind, ((subst (λ p. IsPlaced p o) is placed, unnamed), limit))
+
+pub rendered_refuses : (t : Option Refusal) (o : Outcome) (place : Option Place) → ¬ (IsNone t)
+    → place ≡ option_and_then (λ r. r.place) t → o.kind ≡ 2 → IfSome place (λ p. IsPlaced (Some p) o) → o.limit ≤ 2
+    → Refuses Rendered t o
+rendered_refuses None o place some is kind placed limit = absurd (some refl)
+rendered_refuses (Some r) o place some is kind placed limit =
+    (kind, (subst (λ p. IfSome p (λ q. IsPlaced (Some q) o)) is placed, limit))
+
+pub globals_refuse : (t : Option Refusal) (o : Outcome) → ¬ (IsNone t) → o.kind ≡ 4 → IsPlaced None o → IsUnnamed o → o.limit ≡ 0
+    → Refuses OfGlobals t o
+globals_refuse None o some kind placed unnamed limit = absurd (some refl)
+globals_refuse (Some r) o some kind placed unnamed limit = (kind, ((placed, unnamed), limit))
+
+unparsed_told : (t : Option Refusal) (o : Outcome) → Refuses Unread t o → Ends (option_map unparsed t) o
+unparsed_told None o refuses = refuses
+unparsed_told (Some r) o refuses = refuses
+
+refused_told : (t : Option Refusal) (o : Outcome) → Refuses Rendered t o → Ends (option_map refused t) o
+refused_told None o refuses = refuses
+refused_told (Some r) o refuses = refuses
+
+no_globals_told : (t : Option Refusal) (o : Outcome) → Refuses OfGlobals t o → Ends (option_map no_globals t) o
+no_globals_told None o refuses = refuses
+no_globals_told (Some r) o refuses = refuses
+
+module _ (fault : PageFault) (error : Error) (o : Outcome) where
+  pub unparsed_ends : fault ≡ page.Unparsed error → Refuses Unread (told error) o → Ends (fault_told fault) o
+  unparsed_ends is refuses = subst (λ f. Ends (fault_told f) o) (sym is) (unparsed_told (told error) o refuses)
+
+  pub refused_ends : fault ≡ page.Refused error → Refuses Rendered (told error) o → Ends (fault_told fault) o
+  refused_ends is refuses = subst (λ f. Ends (fault_told f) o) (sym is) (refused_told (told error) o refuses)
+
+  pub no_globals_ends : fault ≡ page.NoGlobals error → Refuses OfGlobals (told error) o → Ends (fault_told fault) o
+  no_globals_ends is refuses = subst (λ f. Ends (fault_told f) o) (sym is) (no_globals_told (told error) o refuses)
 
 -- the length of the message, by what a fault says
 abbrev pub Said : Option Fault → ℕ → Type 0
