@@ -81,19 +81,10 @@ module _ {A : Type 0} (finds : NameMap (Result A Refusal)) (name : List ℕ) whe
   abbrev tried_as : Option (Result A Refusal) → Result (Option A) Refusal
   tried_as found = elim found [ None ↦ Ok None | Some answer ↦ ok_then answer (λ tree. Ok (Some tree)) ]
 
-  abbrev IsTree : A → Result (Option A) Refusal → Type 0
-  IsTree x (Ok (Some y)) = x ≡ y
-  IsTree x (Ok None) = ⊥
-  IsTree x (Err r) = ⊥
-
   abbrev IsNothing : Result (Option A) Refusal → Type 0
   IsNothing (Ok (Some y)) = ⊥
   IsNothing (Ok None) = Unit {0}
   IsNothing (Err r) = ⊥
-
-  abbrev IsFault : Refusal → Result (Option A) Refusal → Type 0
-  IsFault r (Ok o) = ⊥
-  IsFault r (Err q) = r ≡ q
 
   none_there : (o : Option (Result A Refusal)) → IsNothing (tried_as o) → o ≡ None
   none_there None h = refl
