@@ -12,7 +12,9 @@ use Rattle.liquid_runtime.specs.meaning.Frames.{
   restored_by,
 }
 use Rattle.liquid_runtime.specs.meaning.OpenFrames.{opened, EndsFirst}
-use Rattle.liquid_template.proofs.Framing.{later_are}
+
+later_are : {A : Type 0} (x y : A) (xs ys : List A) → x ∷ xs ≡ y ∷ ys → xs ≡ ys
+later_are x y xs ys e = cc
 
 module _ {Reg : Type 0} where
   pub can_be_popped : (frame : FrameShape) (v : View Reg) (rs : List (Restore Reg)) → 0 < length (opened (restored_by frame v ∷ rs))
