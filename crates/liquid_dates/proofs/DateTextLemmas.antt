@@ -401,7 +401,8 @@ after_text_is text all rest e = by_test (bytes_eq (take (length text) all) text)
         sym (take-append-drop (length text) all) ∙ ap (λ u. u ++ drop (length text) all)
         ((bytes_eq-Decides (take (length text) all) text).0 t) ∙ ap (λ u. text ++ u) same
 
-month_sound : (text : List ℕ) (m : ℕ) (rest : List ℕ) → read_month text ≡ Some (m, rest) → (text ≡ month_name m ++ rest) × (1 ≤ m) × (m < 13)
+month_sound : (text : List ℕ) (m : ℕ) (rest : List ℕ) → read_month text ≡ Some (m, rest)
+    → (text ≡ month_name m ++ rest) × (1 ≤ m) × (m < 13)
 unfolding read_month short_month_name
 month_sound text m rest e =
     let (x, ex, e1) = bind_some (read_short_month text) _ _ e in
@@ -427,14 +428,16 @@ pub dashed_reads : Reads dashed read_iso_date
 unfolding read_iso_date
 dashed_reads =
     let two = two_reads 100 (omega arith) in
-    joined_reads year_form read_year 45 (joined (two_below 100) 45 (two_below 100)) (joined_at (read_two_digits 100) 45 (read_two_digits 100)) year_reads
+    joined_reads year_form read_year 45 (joined (two_below 100) 45 (two_below 100))
+    (joined_at (read_two_digits 100) 45 (read_two_digits 100)) year_reads
     (joined_reads (two_below 100) (read_two_digits 100) 45 (two_below 100) (read_two_digits 100) two two refl) refl
 
 pub long_reads : Reads (day_month month_name) read_long_date
 unfolding read_long_date
 long_reads =
     let two = two_reads 100 (omega arith) in
-    joined_reads (two_below 100) (read_two_digits 100) 32 (joined (month_form month_name) 32 year_form) (joined_at read_month 32 read_year) two
+    joined_reads (two_below 100) (read_two_digits 100) 32 (joined (month_form month_name) 32 year_form)
+    (joined_at read_month 32 read_year) two
     (joined_reads (month_form month_name) read_month 32 year_form read_year month_reads year_reads refl) refl
 
 pub short_reads : Reads (day_month short_month_name) read_short_date
@@ -449,7 +452,8 @@ pub slashed_reads : Reads slashed read_us_date
 unfolding read_us_date
 slashed_reads =
     let two = two_reads 100 (omega arith) in
-    joined_reads (two_below 100) (read_two_digits 100) 47 (joined (two_below 100) 47 year_form) (joined_at (read_two_digits 100) 47 read_year) two
+    joined_reads (two_below 100) (read_two_digits 100) 47 (joined (two_below 100) 47 year_form)
+    (joined_at (read_two_digits 100) 47 read_year) two
     (joined_reads (two_below 100) (read_two_digits 100) 47 year_form read_year two year_reads refl) refl
 
 pub clock_reads : Reads clock read_clock
@@ -457,5 +461,6 @@ unfolding read_clock
 clock_reads =
     let hour = two_reads 24 (omega arith) in
     let sixty = two_reads 60 (omega arith) in
-    joined_reads (two_below 24) (read_two_digits 24) 58 (joined (two_below 60) 58 (two_below 60)) (joined_at (read_two_digits 60) 58 (read_two_digits 60)) hour
+    joined_reads (two_below 24) (read_two_digits 24) 58 (joined (two_below 60) 58 (two_below 60))
+    (joined_at (read_two_digits 60) 58 (read_two_digits 60)) hour
     (joined_reads (two_below 60) (read_two_digits 60) 58 (two_below 60) (read_two_digits 60) sixty sixty refl) refl

@@ -342,7 +342,8 @@ seconds_printed dt small whole none =
     let c = clock_text (civil_time dt) in
     let o = 32 ∷ offset_text (offset_seconds dt) in
     let all : d ++ (32 ∷ (c ++ o)) ≡ (d ++ (32 ∷ c)) ++ o = sym (append_assoc d (32 ∷ c) o) in
-    let text : date_time_text dt ≡ (d ++ (32 ∷ c)) ++ o = ap (λ t. d ++ (32 ∷ (c ++ (t ++ o)))) (no_fraction (nanosecond dt) none) ∙ all in (
+    let text : date_time_text dt ≡ (d ++ (32 ∷ c)) ++ o = ap (λ t. d ++ (32 ∷ (c ++ (t ++ o)))) (no_fraction (nanosecond dt) none)
+    ∙ all in (
       (
         d ++ (32 ∷ c),
         offset_text (offset_seconds dt),

@@ -204,7 +204,8 @@ one_digit_sound c n cs rest true t e =
     let is : c ≡ 48 + n = omega (arith, pair.0) in
     (omega (arith, pair.0), rw (is, pair.1) refl)
 
-short_day_sound : (text : List ℕ) (o : Read ℕ) → read_two_digits 100 text ≡ o → (n : ℕ) (rest : List ℕ) → or_one_digit o text ≡ Some (n, rest)
+short_day_sound : (text : List ℕ) (o : Read ℕ) → read_two_digits 100 text ≡ o → (n : ℕ) (rest : List ℕ)
+    → or_one_digit o text ≡ Some (n, rest)
     → (front : List ℕ) × (text ≡ front ++ rest) × short_day front n
 short_day_sound text (Some x) t n rest e =
     let (s, is, f) = two_sound 100 text n rest (t ∙ e) in (s, is, inr f)

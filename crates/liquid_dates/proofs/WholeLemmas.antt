@@ -68,25 +68,29 @@ whole_by_year r (Some (ymd, rest)) d e h =
     (w.0, ap (λ p. p.0) w.1, ap (λ p. p.1.0) w.1, ap (λ p. p.1.1) w.1)
 
 -- the date that was read has the form, and a date of the form is the one that was read
-pub long_found : (text : List ℕ) (read : Option (Ymd × Bor (List ℕ))) (d : CivilDate) → option_map by_day (read_of read) ≡ read_long_date text
+pub long_found : (text : List ℕ) (read : Option (Ymd × Bor (List ℕ))) (d : CivilDate)
+    → option_map by_day (read_of read) ≡ read_long_date text
     → IsWholeDate read d → long_date text d
 unfolding long_date
 long_found text read d e h = whole_sound (day_month month_name) read_long_date long_reads text (day_first d)
     (by_day_whole (read_long_date text) read d e h)
 
-pub long_whole : (text : List ℕ) (read : Option (Ymd × Bor (List ℕ))) (d : CivilDate) → option_map by_day (read_of read) ≡ read_long_date text
+pub long_whole : (text : List ℕ) (read : Option (Ymd × Bor (List ℕ))) (d : CivilDate)
+    → option_map by_day (read_of read) ≡ read_long_date text
     → long_date text d → IsWholeDate read d
 unfolding long_date
 long_whole text read d e h = whole_by_day (read_long_date text) read d e
     (whole_complete (day_month month_name) read_long_date long_reads text (day_first d) h)
 
-pub short_found : (text : List ℕ) (read : Option (Ymd × Bor (List ℕ))) (d : CivilDate) → option_map by_day (read_of read) ≡ read_short_date text
+pub short_found : (text : List ℕ) (read : Option (Ymd × Bor (List ℕ))) (d : CivilDate)
+    → option_map by_day (read_of read) ≡ read_short_date text
     → IsWholeDate read d → short_date text d
 unfolding short_date
 short_found text read d e h = whole_sound (day_month short_month_name) read_short_date short_reads text (day_first d)
     (by_day_whole (read_short_date text) read d e h)
 
-pub short_whole : (text : List ℕ) (read : Option (Ymd × Bor (List ℕ))) (d : CivilDate) → option_map by_day (read_of read) ≡ read_short_date text
+pub short_whole : (text : List ℕ) (read : Option (Ymd × Bor (List ℕ))) (d : CivilDate)
+    → option_map by_day (read_of read) ≡ read_short_date text
     → short_date text d → IsWholeDate read d
 unfolding short_date
 short_whole text read d e h = whole_by_day (read_short_date text) read d e
@@ -95,18 +99,21 @@ short_whole text read d e h = whole_by_day (read_short_date text) read d e
 pub dashed_found : (text : List ℕ) (read : Option (Ymd × Bor (List ℕ))) (d : CivilDate)
     → option_map by_year (read_of read) ≡ read_iso_date text → IsWholeDate read d → iso_date text d
 unfolding iso_date
-dashed_found text read d e h = whole_sound dashed read_iso_date dashed_reads text (year_first d) (by_year_whole (read_iso_date text) read d e h)
+dashed_found text read d e h = whole_sound dashed read_iso_date dashed_reads text (year_first d)
+    (by_year_whole (read_iso_date text) read d e h)
 
 pub dashed_whole : (text : List ℕ) (read : Option (Ymd × Bor (List ℕ))) (d : CivilDate)
     → option_map by_year (read_of read) ≡ read_iso_date text → iso_date text d → IsWholeDate read d
 unfolding iso_date
-dashed_whole text read d e h = whole_by_year (read_iso_date text) read d e (whole_complete dashed read_iso_date dashed_reads text (year_first d) h)
+dashed_whole text read d e h = whole_by_year (read_iso_date text) read d e
+    (whole_complete dashed read_iso_date dashed_reads text (year_first d) h)
 
 -- a text has one date by each form, and so by the first that fits
 long_once : (text : List ℕ) (a b : CivilDate) → long_date text a → long_date text b → SameDate a b
 unfolding long_date
 long_once text a b h k =
-    let e : Some (day_first a) ≡ Some (day_first b) = sym (whole_complete (day_month month_name) read_long_date long_reads text (day_first a) h)
+    let e : Some (day_first a) ≡ Some (day_first b) = sym
+    (whole_complete (day_month month_name) read_long_date long_reads text (day_first a) h)
     ∙ whole_complete (day_month month_name) read_long_date long_reads text (day_first b) k in
     let p : day_first a ≡ day_first b = ap (λ o. unwrap_or o (day_first a)) e in
     (ap (λ q. q.1.1) p, ap (λ q. q.1.0) p, ap (λ q. q.0) p)

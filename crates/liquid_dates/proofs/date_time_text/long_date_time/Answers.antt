@@ -4,7 +4,8 @@ use Rattle.liquid_dates.proofs.date_time_text.long_date_time.Goals as goal
 
 pub returns-clause-fits : goal.returns-clause-fits
 returns-clause-fits c =
-    found_weaker _ _ _ (λ dt h. long_found c.args.given c.args.text.now c.read_long_stamp-read.result dt c.read_long_stamp-read.ensures.value
+    found_weaker _ _ _ (λ dt h. long_found c.args.given c.args.text.now c.read_long_stamp-read.result dt
+    c.read_long_stamp-read.ensures.value
     c.read_long_stamp-read.ensures.whole h) c.date_time_of.ensures.found
 
 pub returns-clause-none : goal.returns-clause-none
