@@ -206,7 +206,8 @@ long_time_decided text =
     ))
     (timed_decided (timed_day_month month_name) read_long_stamp timed_long_reads by_day day_made text)
 
-short_time_is : (text : List ℕ) (dt : DateTime) → Timed (timed_day_month short_month_name) read_short_stamp timed_short_reads by_day day_made
+short_time_is : (text : List ℕ) (dt : DateTime)
+    → Timed (timed_day_month short_month_name) read_short_stamp timed_short_reads by_day day_made
     text dt → short_date_time text dt
 unfolding short_date_time
 short_time_is text dt (p, f, is) = (
@@ -258,7 +259,8 @@ exactly v z = IsAt v.0.0 v.0.1.0 v.0.1.1 v.1.0.0 v.1.0.1.0 v.1.0.1.1 v.1.1 z
 exact_made : (v : Exact) (z : ℤ) → Decided (exactly v z)
 exact_made v z = at_decided v.0.0 v.0.1.0 v.0.1.1 v.1.0.0 v.1.0.1.0 v.1.0.1.1 v.1.1 z
 
-fraction_time_is : (text : List ℕ) (dt : DateTime) → Timed timed_fraction read_fraction_stamp timed_fraction_reads exactly exact_made text dt
+fraction_time_is : (text : List ℕ) (dt : DateTime)
+    → Timed timed_fraction read_fraction_stamp timed_fraction_reads exactly exact_made text dt
     → fraction_date_time text dt
 unfolding fraction_date_time
 fraction_time_is text dt (p, f, is) =

@@ -57,7 +57,8 @@ module _ (s : List ℕ) where
       → (¬ (WholeTag s) → Refuses result (refused_at s (codes "Invalid liquid") s)) → IsRead result (read_as o)
   read_by (Some t) fit (Ok tag) gives none =
       let g = gives t fit in (handed s t, g.1.tokens_are, ap (λ r. ok_then r (λ _. condition_given (handed s t))) g.0)
-  read_by (Some t) fit (Err e) gives none = if_some (told e) (λ r q. ap (λ r. ok_then r (λ _. condition_given (handed s t))) q) (gives t fit)
+  read_by (Some t) fit (Err e) gives none =
+      if_some (told e) (λ r q. ap (λ r. ok_then r (λ _. condition_given (handed s t))) q) (gives t fit)
   read_by None fit (Ok tag) gives none = absurd (none fit)
   read_by None fit (Err e) gives none = if_some (told e) (λ r q. ap (λ x. Err x) (sym q)) (none fit)
 

@@ -60,7 +60,8 @@ module _ (set : ByteSet) (text : List ℕ) where
 
   -- .. and of one at its end
   pub cuts_end_run : (n : ℕ) → n ≤ suffix_len (contains set) text → IsCharBoundary text (length text - n)
-  cuts_end_run zero le = let same : length text - 0 ≡ length text = omega arith in subst (IsCharBoundary text) (sym same) (IsCharBoundary-end text)
+  cuts_end_run zero le = let same : length text - 0
+      ≡ length text = omega arith in subst (IsCharBoundary text) (sym same) (IsCharBoundary-end text)
   cuts_end_run (suc k) le =
       let fits : suffix_len (contains set) text ≤ length (reverse text) = prefix_len-le-length (contains set) (reverse text) in
       let within : suc k ≤ length text = omega (arith, length-reverse text) in
@@ -84,7 +85,8 @@ cuts_end_dash text = go (get_or text (length text - 1) 0 == byte "-") refl
   where
     go : (t : Bool) → (get_or text (length text - 1) 0 == byte "-") ≡ t → cond t 1 0 ≤ length text
         → IsCharBoundary text (length text - cond t 1 0)
-    go true e fits = IsCharBoundary-before_ascii text (length text - 1) (omega arith) (omega (arith, eqb-true (get_or text (length text - 1) 0) (byte "-") e))
+    go true e fits = IsCharBoundary-before_ascii text (length text - 1) (omega arith)
+        (omega (arith, eqb-true (get_or text (length text - 1) 0) (byte "-") e))
     go false e fits =
         let same : length text - 0 ≡ length text = omega arith in subst (IsCharBoundary text) (sym same) (IsCharBoundary-end text)
 

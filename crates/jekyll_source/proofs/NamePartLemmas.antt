@@ -138,12 +138,14 @@ pub part_turn : (out new rest after : List ℕ) (whole : Option (List ℕ)) → 
     → option_map (λ ps. out ++ (ps ++ codes " >")) (parts rest) ≡ whole
     → option_map (λ ps. new ++ (ps ++ codes " >")) (parts after) ≡ whole
 part_turn out new [] after whole more is held = absurd (more refl)
-part_turn out new (b ∷ bs) after whole more is held = go (next_part (b ∷ bs)) is (sym (ap (option_map (λ ps. out ++ (ps ++ codes " >"))) (next_parts b bs)) ∙ held)
+part_turn out new (b ∷ bs) after whole more is held =
+    go (next_part (b ∷ bs)) is (sym (ap (option_map (λ ps. out ++ (ps ++ codes " >"))) (next_parts b bs)) ∙ held)
   where
     inner : (front : List ℕ) (o : Option (List ℕ)) → option_map (λ ps. (out ++ front) ++ (ps ++ codes " >")) o
         ≡ option_map (λ ps. out ++ (ps ++ codes " >")) (option_map (λ ps. front ++ ps) o)
     inner front None = refl
-    inner front (Some ps) = ap Some (append_assoc out front (ps ++ codes " >") ∙ ap (λ l. out ++ l) (sym (append_assoc front ps (codes " >"))))
+    inner front (Some ps) = ap Some
+        (append_assoc out front (ps ++ codes " >") ∙ ap (λ l. out ++ l) (sym (append_assoc front ps (codes " >"))))
 
     go : (o : Option Parts) → (let r : Option Parts = Some (new, after) in r ≡ option_map (λ p. (out ++ p.0, p.1)) o)
         → option_map (λ ps. out ++ (ps ++ codes " >")) (option_and_then (λ p. option_map (λ ps. p.0 ++ ps) (parts p.1)) o) ≡ whole

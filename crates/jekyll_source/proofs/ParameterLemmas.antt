@@ -134,13 +134,15 @@ end_is_ascii escaped b Single e = let same : b ≡ 39 = end_is_quote escaped b 3
 quoted_shorter : (quote : ℕ) (text : List ℕ) (p : Parts) → split_quoted quote text ≡ Some p → length p.1 ≤ length text
 quoted_shorter quote text p = go (quoted_len quote false text)
   where
-    go : (o : Option ℕ) → (let r : Option Parts = option_map (λ n. (take n text, drop (n + 1) text)) o in r ≡ Some p) → length p.1 ≤ length text
+    go : (o : Option ℕ) → (let r : Option Parts = option_map (λ n. (take n text, drop (n + 1) text)) o in r ≡ Some p)
+        → length p.1 ≤ length text
     go None e = absurd (cc)
     go (Some n) e =
         let same : drop (n + 1) text ≡ p.1 = ap (λ o. (unwrap_or o p).1) e in omega (arith, ap length same, drop_shorter (n + 1) text)
 
 -- what goes on after a quote depends on shorter texts only
-from_same : (f g : List ℕ → List ℕ) (back : List ℕ) → ((t : List ℕ) → length t < length back → f t ≡ g t) → from_quote f back ≡ from_quote g back
+from_same : (f g : List ℕ → List ℕ) (back : List ℕ) → ((t : List ℕ) → length t < length back → f t ≡ g t)
+    → from_quote f back ≡ from_quote g back
 from_same f g [] same = refl
 from_same f g (quote ∷ bs) same = go (split_quoted quote bs) refl
   where
@@ -207,7 +209,8 @@ module _ (text front back : List ℕ) (is : (let p : Parts = (front, back) in p 
       go (b ∷ bs) e more = absurd (cc (more (omega arith), e))
 
   module _ (quote : ℕ) (after : List ℕ) (begins : back ≡ quote ∷ after) where
-    starts : unescaped text ≡ front ++ option_map_or (λ p. unescaped_text quote p.0 ++ unescaped p.1) (split_quoted quote after) (quote ∷ after)
+    starts : unescaped text ≡ front
+        ++ option_map_or (λ p. unescaped_text quote p.0 ++ unescaped p.1) (split_quoted quote after) (quote ∷ after)
     starts =
         next_unescaped text ∙ ap (λ l. l ++ from_quote (λ t. unescaped t) (split_at_quote text).1) (sym front_is)
         ∙ ap (λ l. front ++ from_quote (λ t. unescaped t) l) (sym back_is ∙ begins)
@@ -232,7 +235,8 @@ text_turn out first new front inner rest whole text is begun grown held =
     rw (grown, begun) (append_assoc (out ++ front) inner rest ∙ append_assoc out front (inner ++ rest) ∙ ap (λ l. out ++ l) (sym is) ∙ held)
 
 -- a literal that was appended, or the text as it was
-pub literal_pushed : (out mid other : List ℕ) (o : Option (List ℕ)) → (let r : Option (List ℕ) = Some mid in r ≡ option_map (λ l. out ++ l) o)
+pub literal_pushed : (out mid other : List ℕ) (o : Option (List ℕ))
+    → (let r : Option (List ℕ) = Some mid in r ≡ option_map (λ l. out ++ l) o)
     → mid ≡ out ++ unwrap_or o other
 literal_pushed out mid other None e = absurd (cc)
 literal_pushed out mid other (Some l) e = cc

@@ -83,14 +83,16 @@ body_shorter name text = go (bytes_eq name (codes "raw")) (bytes_eq name (codes 
 
 module _ (text rest : List ℕ) where
   tag_shorter : (closer : List ℕ) (r : Option ℕ)
-      → length (option_map_or tag_taken (option_map (λ at. (take at rest, drop (at + length closer) rest)) r) (plain text, [])).1 ≤ length rest
+      → length (option_map_or tag_taken (option_map (λ at. (take at rest, drop (at + length closer) rest)) r) (plain text, [])).1 ≤ length
+      rest
   tag_shorter closer None = omega arith
   tag_shorter closer (Some at) =
       let after = drop (at + length closer) rest in
       omega (arith, body_shorter (named (take at rest)).0 after, drop_shorter (at + length closer) rest)
 
   value_shorter : (closer : List ℕ) (r : Option ℕ)
-      → length (option_map_or value_taken (option_map (λ at. (take at rest, drop (at + length closer) rest)) r) (plain text, [])).1 ≤ length rest
+      → length (option_map_or value_taken (option_map (λ at. (take at rest, drop (at + length closer) rest)) r) (plain text, [])).1 ≤ length
+      rest
   value_shorter closer None = omega arith
   value_shorter closer (Some at) = drop_shorter (at + length closer) rest
 
@@ -137,7 +139,8 @@ all_pieces (suc n) (suc m) (b ∷ bs) h k =
 pub next_piece : (b : ℕ) (bs : List ℕ) → pieces (b ∷ bs) ≡ (first_piece (b ∷ bs)).0 ∷ pieces (first_piece (b ∷ bs)).1
 next_piece b bs =
     let less = first_shorter b bs in
-    ap (λ ps. (first_piece (b ∷ bs)).0 ∷ ps) (all_pieces (length bs) (length (first_piece (b ∷ bs)).1) (first_piece (b ∷ bs)).1 less (omega arith))
+    ap (λ ps. (first_piece (b ∷ bs)).0 ∷ ps)
+    (all_pieces (length bs) (length (first_piece (b ∷ bs)).1) (first_piece (b ∷ bs)).1 less (omega arith))
 
 -- one turn over the text
 pub turn : (rest text : List ℕ) (whole done new : List Piece) (p : Piece) → text ≢ [] → (p, rest) ≡ first_piece text

@@ -76,7 +76,8 @@ cuts_plain (b ∷ bs) more =
     elim (cases_lt n (length bs)) [
       | inl within ↦ subst (IsCharBoundary (b ∷ bs)) (sym place) (IsCharBoundary-before_ascii (b ∷ bs) (suc n) (omega arith)
           (brace_is_ascii _ (prefix_len_stops (λ c. not (c == byte "{")) bs 0 within)))
-      | inr past ↦ subst (IsCharBoundary (b ∷ bs)) (omega (arith, prefix_len-le-length (λ c. not (c == byte "{")) bs)) (IsCharBoundary-end (b ∷ bs))
+      | inr past ↦ subst (IsCharBoundary (b ∷ bs)) (omega (arith, prefix_len-le-length (λ c. not (c == byte "{")) bs))
+          (IsCharBoundary-end (b ∷ bs))
     ]
 
 pub has_bytes : (text : List ℕ) → text ≢ [] → 1 ≤ length text

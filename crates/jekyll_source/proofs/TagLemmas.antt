@@ -4,7 +4,8 @@ use Rattle.jekyll_source.specs.meaning.Splits.{Parts, is_white, is_word, split_d
 use Rattle.jekyll_source.specs.meaning.Tags.{Tag, fitted, named, shorter_end, shorter_start, tag_of}
 use Rattle.std.specs.Str.{byte}
 
-module _ (inner : List ℕ) (d l n : Parts) (dashed : d ≡ split_dash inner) (led : l ≡ split_run is_white d.1) (name : n ≡ split_run is_word l.1) where
+module _ (inner : List ℕ) (d l n : Parts) (dashed : d ≡ split_dash inner) (led : l ≡ split_run is_white d.1)
+    (name : n ≡ split_run is_word l.1) where
   pub named_by_parts : n ≡ named inner
   named_by_parts = rw (name, led, dashed) refl
 
@@ -13,7 +14,8 @@ module _ (inner : List ℕ) (d l n : Parts) (dashed : d ≡ split_dash inner) (l
   tag_by_parts g e b gap ended tailed = rw (tailed, ended, gap, name, led, dashed) refl
 
 -- one more space
-pub space_more : (out whole : List ℕ) (b n i : ℕ) → i < n → out ++ replicate (n - i) b ≡ whole → (out ++ b ∷ []) ++ replicate (n - (i + 1)) b ≡ whole
+pub space_more : (out whole : List ℕ) (b n i : ℕ) → i < n → out ++ replicate (n - i) b ≡ whole
+    → (out ++ b ∷ []) ++ replicate (n - (i + 1)) b ≡ whole
 space_more out whole b n i within held =
     let left : n - i ≡ suc (n - (i + 1)) = omega arith in
     append_assoc out (b ∷ []) (replicate (n - (i + 1)) b) ∙ ap (λ k. out ++ replicate k b) (sym left) ∙ held
@@ -26,7 +28,8 @@ pub fitted_parts : (tag : Tag) (new tail lead out a b c d e f g h : List ℕ) �
     → h ≡ out ++ fitted tag new
 fitted_parts tag new tail lead out a b c d e f g h tailed led first second third fourth fifth sixth seventh eighth =
     let spaces = replicate (length tag.body - length new) (byte " ") in
-    eight out tag.dash lead tag.name tag.gap new tail spaces tag.end_dash a b c d e f g h first second third fourth fifth sixth seventh eighth
+    eight out tag.dash lead tag.name tag.gap new tail spaces tag.end_dash a b c d e f g h first second third fourth fifth sixth seventh
+    eighth
     ∙ ap (λ l. out ++ (tag.dash ++ (l ++ (tag.name ++ (tag.gap ++ (new ++ (tail ++ (spaces ++ tag.end_dash)))))))) led
     ∙ ap (λ t. out ++ (tag.dash ++ (shorter_start (length new - length tag.body - (length tag.tail - length t)) tag.lead
     ++ (tag.name ++ (tag.gap ++ (new ++ (t ++ (spaces ++ tag.end_dash)))))))) tailed

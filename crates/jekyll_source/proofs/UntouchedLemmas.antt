@@ -175,7 +175,8 @@ tag_joined : (text rest : List ℕ) → text ≡ codes "{%" ++ rest
 tag_joined text rest is = go (first_of (matches rest (codes "%}") 0)) refl
   where
     go : (r : Option ℕ) → first_of (matches rest (codes "%}") 0) ≡ r
-        → (let t : Taken = option_map_or tag_taken (option_map (λ at. (take at rest, drop (at + length (codes "%}")) rest)) r) (plain text, []) in
+        → (let t : Taken = option_map_or tag_taken (option_map (λ at. (take at rest, drop (at + length (codes "%}")) rest)) r)
+        (plain text, []) in
         bytes_of t.0 ++ t.1 ≡ text)
     go None e = append-nil text
     go (Some at) e =
@@ -190,7 +191,8 @@ value_joined : (text rest : List ℕ) → text ≡ codes "{{" ++ rest
 value_joined text rest is = go (first_of (matches rest (codes "}}") 0)) refl
   where
     go : (r : Option ℕ) → first_of (matches rest (codes "}}") 0) ≡ r
-        → (let t : Taken = option_map_or value_taken (option_map (λ at. (take at rest, drop (at + length (codes "}}")) rest)) r) (plain text, []) in
+        → (let t : Taken = option_map_or value_taken (option_map (λ at. (take at rest, drop (at + length (codes "}}")) rest)) r)
+        (plain text, []) in
         bytes_of t.0 ++ t.1 ≡ text)
     go None e = append-nil text
     go (Some at) e =
@@ -202,7 +204,8 @@ first_joined : (text : List ℕ) → bytes_of (first_piece text).0 ++ (first_pie
 first_joined text = tagged (after_opener (byte "%") text) refl
   where
     valued : (o : Option (List ℕ)) → after_opener (byte "{") text ≡ o
-        → (let t : Taken = option_map_or (λ rest. whole_value text rest) o (plain_taken (split_at (plain_len text) text)) in bytes_of t.0 ++ t.1 ≡ text)
+        → (let t : Taken = option_map_or (λ rest. whole_value text rest) o (plain_taken (split_at (plain_len text) text)) in bytes_of t.0
+        ++ t.1 ≡ text)
     valued None e = split_joined (plain_len text) text
     valued (Some rest) e = value_joined text rest (opener_is (byte "{") text rest e)
 

@@ -68,7 +68,8 @@ module _ {F : Type 0} (filters : Filters F) where
           ≡ Ok (tt, record { following = t.following; left = more }) =
           ap (λ b. ok_then (or_unexpected t (cond b (Some tt) None)) (λ x. Ok (x, record { following = t.following; left = more }))) e in
           let same : Ok (tt, record { following = t.following; left = more }) ≡ Ok (u, rest) = sym opened ∙ read in
-          let after : record { following = t.following; left = more } ≡ rest = ap (λ r. elim r as (λ _. Tokens) [ Ok g ↦ g.1 | Err x ↦ rest ]) same in
+          let after : record { following = t.following; left = more } ≡ rest =
+          ap (λ r. elim r as (λ _. Tokens) [ Ok g ↦ g.1 | Err x ↦ rest ]) same in
           ap (λ b. cond b (Ok ([], record { following = t.following; left = more }))
           (ok_then (or_unexpected t (expect_filter_chain filters t)) (λ c. ok_then (parts_from filters t.following more)
           (λ p. Ok (c ∷ p.0, p.1))))) e

@@ -18,11 +18,13 @@ module _ {F : Type 0} (tag : JekyllTags) (filters : Filters F) (ts : Tokens) whe
   abbrev after_name : List (ChainShape F) × Tokens → Result (JekyllInclusionShape F) Refusal
   after_name n = ok_then (pairs_from n.1.left) (with_pairs n.0)
 
-  pub name_refused : (o : Option Refusal) → IfSome o (λ r. name_given tag filters ts ≡ Err r) → IfSome o (λ r. tag_given tag filters ts ≡ Err r)
+  pub name_refused : (o : Option Refusal) → IfSome o (λ r. name_given tag filters ts ≡ Err r)
+      → IfSome o (λ r. tag_given tag filters ts ≡ Err r)
   name_refused o refused = then_refused o (name_given tag filters ts) after_name refused
 
   module _ (name : List (ChainShape F)) (rest : Tokens) (named : name_given tag filters ts ≡ Ok (name, rest)) where
-    pub pairs_refused : (o : Option Refusal) → IfSome o (λ r. pairs_from rest.left ≡ Err r) → IfSome o (λ r. tag_given tag filters ts ≡ Err r)
+    pub pairs_refused : (o : Option Refusal) → IfSome o (λ r. pairs_from rest.left ≡ Err r)
+        → IfSome o (λ r. tag_given tag filters ts ≡ Err r)
     pairs_refused o refused =
         subst (λ q. IfSome o (λ r. q ≡ Err r)) (sym (ap (λ r. ok_then r after_name) named))
         (then_refused o (pairs_from rest.left) (with_pairs name) refused)

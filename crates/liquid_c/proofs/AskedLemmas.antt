@@ -73,7 +73,8 @@ module _ (asked : Asked) (globals old new : List ℕ) (o : Outcome) where
   left_in : (now : Option DateTime) (dialect : Dialect) → asked.options < 64 → HasMoment asked now → dialect_of asked.options ≡ dialect
       → Left now dialect → LeavesOver asked globals old new o
   left_in now dialect within has is left = (
-    λ _ other has_other. subst (λ n. Left n (dialect_of asked.options)) (moment_is asked now other has has_other) (subst (Left now) (sym is) left),
+    λ _ other has_other. subst (λ n. Left n (dialect_of asked.options)) (moment_is asked now other has has_other)
+        (subst (Left now) (sym is) left),
     λ _ lacks. absurd (lacks_none asked now has lacks),
     λ over. absurd (never within over),
   )

@@ -30,5 +30,6 @@ module _ {E : Type 0} where
       → IfOk r (λ o. IfNone o ((dt : DateTime) → ¬ (IsMomentOf None (scalar (text written)) dt)))
       → IfOk r (λ o. IfNone o ((dt : DateTime) → ¬ (Writes bytes dt)))
   bytes_write_none bytes written (Ok (Some dt)) is none = tt
-  bytes_write_none bytes written (Ok None) is none = λ dt writes. none dt (subst (λ b. IsMomentOf None (scalar (text b)) dt) (sym is) writes.1)
+  bytes_write_none bytes written (Ok None) is none =
+      λ dt writes. none dt (subst (λ b. IsMomentOf None (scalar (text b)) dt) (sym is) writes.1)
   bytes_write_none bytes written (Err e) is none = tt

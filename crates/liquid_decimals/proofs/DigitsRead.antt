@@ -68,9 +68,11 @@ fit : (t : Bool) (m : ℕ) (cs : List ℕ) → ltb m (2 ^ 64) ≡ t → (m < 2 ^
 fit true m cs e rest = rest (grind (arith, nat_tests))
 fit false m cs e rest = past m cs (grind (arith, nat_tests))
 
-step : (t : Bool) (d v n : ℕ) (cs : List ℕ) → (t ≡ true → v ≡ d) → (n * 10 + d < 2 ^ 64 → digits_after (n * 10 + d) cs ≡ answer (n * 10 + d) cs)
+step : (t : Bool) (d v n : ℕ) (cs : List ℕ) → (t ≡ true → v ≡ d)
+    → (n * 10 + d < 2 ^ 64 → digits_after (n * 10 + d) cs ≡ answer (n * 10 + d) cs)
     → option_and_then (λ k. digits_after k cs) (cond (t && ltb (n * 10 + d) (2 ^ 64)) (Some (n * 10 + d)) None)
-    ≡ cond ((t && all_ascii_digits cs) && ltb (digits_value_after 10 (n * 10 + v) cs) (2 ^ 64)) (Some (digits_value_after 10 (n * 10 + v) cs)) None
+    ≡ cond ((t && all_ascii_digits cs) && ltb (digits_value_after 10 (n * 10 + v) cs) (2 ^ 64))
+    (Some (digits_value_after 10 (n * 10 + v) cs)) None
 step false d v n cs e rest = refl
 step true d v n cs e rest = rw (e refl) (fit (ltb (n * 10 + d) (2 ^ 64)) (n * 10 + d) cs refl rest)
 

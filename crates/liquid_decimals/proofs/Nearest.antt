@@ -67,7 +67,8 @@ one_le_tens k = one-le-pow k 10 (omega arith)
 
 -- more digits make a quotient no less
 pub nearest_ge-later : (n m d q j : ℕ) → 0 < d → q * d ≤ m → m * 10 ^ j ≡ n → q ≤ nearest n d
-nearest_ge-later n m d q j h e f = nearest_ge n d q h (let w : m ≤ m * 10 ^ j = grind (arith, one_le_tens j, mul-le m 1 m (10 ^ j)) in omega arith)
+nearest_ge-later n m d q j h e f =
+    nearest_ge n d q h (let w : m ≤ m * 10 ^ j = grind (arith, one_le_tens j, mul-le m 1 m (10 ^ j)) in omega arith)
 
 -- ten times as many
 pub tenfold_power : (n i : ℕ) → n * 10 ^ i * 10 ≡ n * 10 ^ (i + 1)
@@ -95,5 +96,7 @@ pub far_rounds : (d : Dec) (p : ℕ) → FitsSigned w64 d.0 → 19 < p → limit
 far_rounds d p fits far =
     let power : 10 ^ 20 ≤ 10 ^ (d.1 + p) = tens_le 20 (d.1 + p) (omega arith) in
     let magnitude : unsigned_abs d.0 ≤ 2 ^ 63 = omega (arith, ints, fits.sfits) in
-    let none : nearest (unsigned_abs d.0) (10 ^ (d.1 + p)) ≡ 0 = nearest_below (unsigned_abs d.0) (10 ^ (d.1 + p)) 0 (unsigned_abs d.0) (sym (ap (λ x. x + unsigned_abs d.0) (zero-mul (10 ^ (d.1 + p))) ∙ omega arith)) (omega arith) in
-    rw (none, zero-mul (10 ^ p)) (elim (is_negative d.0) as (λ b. limited (pos 0) 0 ≡ limited (signed b 0) 0) [ true ↦ refl | false ↦ refl ])
+    let none : nearest (unsigned_abs d.0) (10 ^ (d.1 + p)) ≡ 0 = nearest_below (unsigned_abs d.0) (10 ^ (d.1 + p)) 0 (unsigned_abs d.0)
+    (sym (ap (λ x. x + unsigned_abs d.0) (zero-mul (10 ^ (d.1 + p))) ∙ omega arith)) (omega arith) in
+    rw (none, zero-mul (10 ^ p)) (elim (is_negative d.0) as
+    (λ b. limited (pos 0) 0 ≡ limited (signed b 0) 0) [ true ↦ refl | false ↦ refl ])

@@ -151,7 +151,8 @@ read_whole minus q h =
     rw (point_none (decimal q) digits, numeral_is (decimal q) (decimal_nonempty q h), digits, digits_value-decimal own q h) refl
 
 read_parts : (minus : Bool) (q k x : ℕ) → q < 2 ^ 64 → q ≡ x / 10 ^ suc k
-    → decimal_around minus (decimal q ++ (46 ∷ places (suc k) x)) (point (decimal q ++ (46 ∷ places (suc k) x))) ≡ limited (signed minus x) (suc k)
+    → decimal_around minus (decimal q ++ (46 ∷ places (suc k) x)) (point (decimal q ++ (46 ∷ places (suc k) x)))
+    ≡ limited (signed minus x) (suc k)
 read_parts minus q k x h e =
     let whole = decimal q in
     let fraction = places (suc k) x in
@@ -175,7 +176,8 @@ read_parts minus q k x h e =
     ) refl
 
 unsigned_read : (minus : Bool) (s x q : ℕ) → q < 2 ^ 64 → q ≡ x / 10 ^ s
-    → decimal_around minus (decimal q ++ point_and_places (codes ".") s x) (point (decimal q ++ point_and_places (codes ".") s x)) ≡ limited (signed minus x) s
+    → decimal_around minus (decimal q ++ point_and_places (codes ".") s x) (point (decimal q ++ point_and_places (codes ".") s x))
+    ≡ limited (signed minus x) s
 unsigned_read minus zero x q h e =
     let same : q ≡ x = omega arith in
     rw append-nil (read_whole minus q h ∙ ap (λ n. limited (signed minus n) 0) same)
@@ -192,7 +194,8 @@ by_sign : (minus : Bool) (s x q : ℕ) → q < 2 ^ 64 → q ≡ x / 10 ^ s
     → decimal_of_text (cond minus (codes "-") [] ++ decimal q ++ point_and_places (codes ".") s x) ≡ limited (signed minus x) s
 by_sign true s x q h e = unsigned_read true s x q h e
 by_sign false s x q h e =
-    plain_read (decimal q) (point_and_places (codes ".") s x) (decimal_nonempty q h) (digits_decimal own q h) ∙ unsigned_read false s x q h e
+    plain_read (decimal q) (point_and_places (codes ".") s x) (decimal_nonempty q h) (digits_decimal own q h)
+    ∙ unsigned_read false s x q h e
 
 signed_abs : (m : ℤ) → signed (is_negative m) (unsigned_abs m) ≡ m
 signed_abs (pos a) = grind arith

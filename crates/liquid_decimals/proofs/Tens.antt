@@ -84,7 +84,8 @@ far_above (pos a) (pos e) some low far =
     let out : le_z (pos (a * 10 ^ e)) (pos (2 ^ 63 - 1)) ≡ false = grind (arith, nat_tests) in grind (arith, nat_tests)
 far_above (negsuc a) (pos e) some low far =
     let w = power_far (suc a) (10 ^ e) (omega arith) (tens_le 19 e (omega arith)) in
-    let out : le_z (neg_ℤ (pos (2 ^ 63))) (neg_ℤ (pos (suc a * 10 ^ e))) ≡ false = grind (arith, nat_tests, ints) in grind (arith, nat_tests)
+    let out : le_z (neg_ℤ (pos (2 ^ 63))) (neg_ℤ (pos (suc a * 10 ^ e)))
+    ≡ false = grind (arith, nat_tests, ints) in grind (arith, nat_tests)
 far_above m (negsuc e) some low far = grind arith
 
 pub power_below : (m e : ℤ) → lt_z e (pos 0) ≡ true → limited m (unsigned_abs e) ≡ power_of_ten_times m e

@@ -39,7 +39,8 @@ pub entity_is_ascii : (b : ℕ) (e : List ℕ) → xml_entity b ≡ Some e → b
 entity_is_ascii b e is = grind (arith, nat_tests)
 
 -- a string that is escaped up to a place, and up to the next
-escaped_more : (bs : List ℕ) (at : ℕ) → at < length bs → xml_escaped (take (at + 1) bs) ≡ xml_escaped (take at bs) ++ byte_or_entity (get_or bs at 0)
+escaped_more : (bs : List ℕ) (at : ℕ) → at < length bs
+    → xml_escaped (take (at + 1) bs) ≡ xml_escaped (take at bs) ++ byte_or_entity (get_or bs at 0)
 escaped_more bs at within =
     ap xml_escaped (take_more bs at 0 within) ∙ flat_map-append byte_or_entity (take at bs) (get_or bs at 0 ∷ [])
     ∙ ap (λ l. xml_escaped (take at bs) ++ l) (append-nil _)

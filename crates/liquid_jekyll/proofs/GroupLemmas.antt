@@ -1,5 +1,6 @@
 -- The first keys of groups, and the members of a group.
-use Rattle.std.proofs.Common.{◌≡◌, true, false, List, [], ◌∷◌, ◌++◌, map, String, Global, sym, ap, ◌∙◌, append_assoc, string_bytes, string_cmp}
+use Rattle.std.proofs.Common.{◌≡◌, true, false, List, [], ◌∷◌, ◌++◌, map}
+use Rattle.std.proofs.Common.{String, Global, sym, ap, ◌∙◌, append_assoc, string_bytes, string_cmp}
 use Rattle.std.specs.Borrow.{Bor}
 use Rattle.std.specs.BTreeMap.{insert_entry}
 use Rattle.std.specs.List.Sorted.{IsPermutation}
@@ -25,7 +26,8 @@ keys-start kept keys es none unread =
 -- a new key is kept
 pub keys-new : (kept after : List Tree) (keys more : List (Bor Value)) (k : Bor Value) (e : Tree × Tree)
     (es : List (Tree × Tree)) (all : List Tree) → after ≡ kept ++ e.0 ∷ [] → IsPermutation (k ∷ keys) more → view k.now ≡ e.0
-    → is_seen keys e.0 ≡ false → kept ++ keys_of (unseen keys (distinct (e ∷ es))) ≡ all → after ++ keys_of (unseen more (distinct es)) ≡ all
+    → is_seen keys e.0 ≡ false → kept ++ keys_of (unseen keys (distinct (e ∷ es))) ≡ all
+    → after ++ keys_of (unseen more (distinct es)) ≡ all
 keys-new kept after keys more k e es all pushed moved key new so_far =
     ap (λ l. l ++ keys_of (unseen more (distinct es))) pushed ∙ append_assoc kept (e.0 ∷ []) _
     ∙ ap (λ l. kept ++ keys_of l) (sym (unseen-new keys more k e es moved key new)) ∙ so_far

@@ -90,4 +90,5 @@ each_byte part b = ap (λ t. cond t (percent_encode_byte b) (b ∷ [])) (escapes
 pub all_bytes : (part : UrlPart) (bytes : List ℕ) → percent_encode (outside part) bytes ≡ escaped part bytes
 unfolding percent_encode
 all_bytes part [] = refl
-all_bytes part (b ∷ bs) = ap (λ t. t ++ percent_encode (outside part) bs) (each_byte part b) ∙ ap (λ t. escaped_byte part b ++ t) (all_bytes part bs)
+all_bytes part (b ∷ bs) = ap (λ t. t ++ percent_encode (outside part) bs) (each_byte part b)
+    ∙ ap (λ t. escaped_byte part b ++ t) (all_bytes part bs)

@@ -32,7 +32,8 @@ use Rattle.liquid_grammar.specs.meaning.Meanings.{literal_of}
 use Rattle.liquid_scalar.specs.meaning.Scalar.{integer, boolean, text, date, date_time}
 use Rattle.liquid_value.specs.meaning.Tree.{Tree}
 use Rattle.liquid_plugins.specs.meaning.Expression.{ExpressionShape, literal, variable, no_indexes, index, as_literal}
-use Rattle.liquid_parser.specs.meaning.Handed.{Token, chain, call_of, handed_token, expression_meant, literal_tree, value_of, as_identifier, expect_value, expect_literal}
+use Rattle.liquid_parser.specs.meaning.Handed.{Token, chain, call_of, handed_token, expression_meant}
+use Rattle.liquid_parser.specs.meaning.Handed.{literal_tree, value_of, as_identifier, expect_value, expect_literal}
 use Rattle.liquid_parser.proofs.Indexes.{first_none}
 
 pub is_value_kind : Kind → Bool

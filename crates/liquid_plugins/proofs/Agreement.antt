@@ -154,7 +154,8 @@ module _ {Reg : Type 0} where
     lenient_evaluate_agrees v (literal t) lenient = refl
     lenient_evaluate_agrees v (variable name is) lenient =
         at_path_lenient v name (path_of v is) lenient
-        ∙ ap (λ o. Ok (unwrap_or (option_and_then (try_path v) (option_map (λ path. name ∷ path) o)) nil)) (lenient_path_agrees v is lenient)
+        ∙ ap (λ o. Ok (unwrap_or (option_and_then (try_path v) (option_map (λ path. name ∷ path) o)) nil))
+        (lenient_path_agrees v is lenient)
 
     lenient_path_agrees : (v : View Reg) (is : Indexes) → includes_indexes v.lenient ≡ true → result_ok (path_of v is) ≡ try_path_of v is
     lenient_path_agrees v no_indexes lenient = refl

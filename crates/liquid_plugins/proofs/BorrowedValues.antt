@@ -90,11 +90,17 @@ module _ {Reg : Type 0} where
 pub member_walks : (place size : ℕ) (word : List ℕ) (t : Tree) → get_member word (forloop_members place size) ≡ Some t
     → literal_walk (forloop place size) (index (literal (scalar (text word))) no_indexes) ≡ Some t
 member_walks place size word t is =
-    ap (λ o. option_and_then (λ part. literal_walk part no_indexes) (option_or o (size_asked word (member_count (forloop_members place size))))) is
+    ap (λ o. option_and_then (λ part. literal_walk part no_indexes)
+    (option_or o (size_asked word (member_count (forloop_members place size))))) is
 
 pub member_made : (place size : ℕ) (word : List ℕ) (t : Tree) → get_member word (forloop_members place size) ≡ Some t → OfLoop t
-member_made place size word t is =
-    (place, size, text word ∷ [], ap (λ o. option_and_then (λ u. walk u []) (option_or o (size_asked word (member_count (forloop_members place size))))) is)
+member_made place size word t is = (
+  place,
+  size,
+  text word ∷ [],
+  ap
+      (λ o. option_and_then (λ u. walk u []) (option_or o (size_asked word (member_count (forloop_members place size))))) is,
+)
 
 pub made_of_loop : (value : Value) → OfLoop (view value) → InPlaceOrMade (Owned value)
 made_of_loop value is = inr is

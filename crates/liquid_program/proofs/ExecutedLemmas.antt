@@ -82,7 +82,8 @@ module _ (options : Options) (ending : Option (List ℕ)) (template globals : Li
   any_globals : (text json : List ℕ) → status ≡ 1
       → WithGlobals (json_object options.decimals json) Stop (λ names. WithPartials known listed ending (option_words folder) Stop
       (λ partials. Finishes options text names partials at at status))
-  any_globals text json one = globals_anyhow (json_object options.decimals json) Stop _ (refl, inr one) (λ names. any_partials text names one)
+  any_globals text json one = globals_anyhow (json_object options.decimals json) Stop _ (refl, inr one)
+      (λ names. any_partials text names one)
 
   any_json : (text : List ℕ) → status ≡ 1
       → WithText (known globals) Stop (λ json. WithGlobals (json_object options.decimals json) Stop
@@ -132,7 +133,8 @@ module _ (options : Options) (ending : Option (List ℕ)) (template globals : Li
             with_json (globals_follow _ _ Stop _ _ (stopped (BTreeMap (String Global) Value) fault at status is)
             (λ names memory. any_partials (string_bytes text) names (is ∙ memory)) step)
 
-        module _ (object : BTreeMap (String Global) Value) (given : WithGlobals (json_object options.decimals (string_bytes json)) (Stops (Ok object))
+        module _ (object : BTreeMap (String Global) Value)
+            (given : WithGlobals (json_object options.decimals (string_bytes json)) (Stops (Ok object))
             (λ names. Brings names_of names (Ok object))) where
           abbrev Parts : Names → Type 0
           Parts names =

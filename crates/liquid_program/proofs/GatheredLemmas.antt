@@ -72,7 +72,8 @@ partials_follow known listed ending (folder ∷ words) stop stops next goes on_s
     folder_follows known folder ending (listed (is_some ending) folder) stop stops (λ texts. next (Some texts))
     (λ texts. goes (Some texts)) on_stop (λ texts. on_partials (Some texts)) with
 
-pub gathers_follow : (decimals : Bool) (words : List (List ℕ)) (ending : Option (List ℕ)) (known : Files) (listed : Folders) (stop stops : Type 0)
+pub gathers_follow : (decimals : Bool) (words : List (List ℕ)) (ending : Option (List ℕ)) (known : Files) (listed : Folders)
+    (stop stops : Type 0)
     (next goes : List ℕ → Names → Option Texts → Type 0)
     → (stop → stops) → ((text : List ℕ) (names : Names) (partials : Option Texts) → next text names partials → goes text names partials)
     → Gathers decimals words ending known listed stop next → Gathers decimals words ending known listed stops goes

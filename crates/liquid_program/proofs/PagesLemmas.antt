@@ -157,14 +157,18 @@ failed_all result fault is = ap all_status is
 pub each_more : (json : List ℕ) (pages : AskedPages) (partials : Option Texts) (templates rest : List (List ℕ)) (template : List ℕ)
     (known before between at left : Files) (status one next result : ℕ)
     → templates ≡ template ∷ rest → before ≡ known → at ≡ between → next ≡ first_fault status one
-    → WithGlobals (json_object pages.options.decimals json) ⊤ (λ globals. WritesFile (ExecutesOne pages.options template globals partials before)
+    → WithGlobals (json_object pages.options.decimals json) ⊤
+    (λ globals. WritesFile (ExecutesOne pages.options template globals partials before)
     (file_in (pages_folder pages.output) template) before between one)
     → WithGlobals (json_object pages.options.decimals json) ⊤ (λ globals. WritesEach pages globals partials rest at left next result)
-    → WithGlobals (json_object pages.options.decimals json) ⊤ (λ globals. WritesEach pages globals partials templates known left status result)
+    → WithGlobals (json_object pages.options.decimals json) ⊤
+    (λ globals. WritesEach pages globals partials templates known left status result)
 each_more json pages partials templates rest template known before between at left status one next result split same_before same_at
     same_next wrote others =
-    subst (λ ts. WithGlobals (json_object pages.options.decimals json) ⊤ (λ globals. WritesEach pages globals partials ts known left status result)) (sym split)
-    (both_given (json_object pages.options.decimals json) _ _ (λ globals. WritesEach pages globals partials (template ∷ rest) known left status result)
+    subst (λ ts. WithGlobals (json_object pages.options.decimals json) ⊤
+    (λ globals. WritesEach pages globals partials ts known left status result)) (sym split)
+    (both_given (json_object pages.options.decimals json) _ _
+    (λ globals. WritesEach pages globals partials (template ∷ rest) known left status result)
     (λ globals w o. (
       between,
       one,
@@ -208,7 +212,8 @@ module _ (pages : AskedPages) (known : Files) (listed : Folders) (left : Files) 
       partials_anyhow known listed pages.ending (option_words pages.partials) Stop _ (same, inr one) (λ partials. inl (one, same))
 
   any_globals : (json : List ℕ) → status ≡ 1 → Same known left → WithGlobals (json_object pages.options.decimals json) Stop Parts
-  any_globals json one same = globals_anyhow (json_object pages.options.decimals json) Stop _ (same, inr one) (λ names. any_partials names one same)
+  any_globals json one same = globals_anyhow (json_object pages.options.decimals json) Stop _ (same, inr one)
+      (λ names. any_partials names one same)
 
   pub no_globals_text : (fault : Fault) → status ≡ fault_status fault → Same known left
       → WithText (known pages.globals) (Stops {A = String Global} (Err fault)) (λ text. Brings (string_bytes {Z = Global}) text (Err fault))
@@ -219,7 +224,8 @@ module _ (pages : AskedPages) (known : Files) (listed : Folders) (left : Files) 
 
   module _ (json : String Global) (there : WithText (known pages.globals) (Stops (Ok json)) (λ bytes. Brings string_bytes bytes (Ok json)))
     where
-      with_json : WithGlobals (json_object pages.options.decimals (string_bytes json)) Stop Parts → WritesPages pages known listed left status
+      with_json : WithGlobals (json_object pages.options.decimals (string_bytes json)) Stop Parts
+          → WritesPages pages known listed left status
       with_json given =
           text_follows (known pages.globals) _ Stop _ _ (λ never. absurd never)
           (λ bytes same. subst (λ b. WithGlobals (json_object pages.options.decimals b) Stop Parts) same given) there
@@ -231,7 +237,8 @@ module _ (pages : AskedPages) (known : Files) (listed : Folders) (left : Files) 
           with_json (globals_follow _ _ Stop _ _ (none_written (BTreeMap (String Global) Value) fault is same)
           (λ names memory. any_partials names (is ∙ memory) same) step)
 
-      module _ (object : BTreeMap (String Global) Value) (given : WithGlobals (json_object pages.options.decimals (string_bytes json)) (Stops (Ok object))
+      module _ (object : BTreeMap (String Global) Value)
+          (given : WithGlobals (json_object pages.options.decimals (string_bytes json)) (Stops (Ok object))
           (λ names. Brings names_of names (Ok object))) where
         pub no_pages_partials : (fault : Fault) → status ≡ fault_status fault → Same known left
             → WithPartials known listed pages.ending (option_words pages.partials) (Stops {A = Option Texts} (Err fault))
@@ -245,7 +252,8 @@ module _ (pages : AskedPages) (known : Files) (listed : Folders) (left : Files) 
         pub each_written : (source : Option Texts)
             → WithPartials known listed pages.ending (option_words pages.partials) (Stops (Ok source))
             (λ partials. Brings (λ (s : Option Texts). s) partials (Ok source))
-            → WithGlobals (json_object pages.options.decimals (string_bytes json)) ⊤ (λ names. WritesEach pages names source pages.templates known left 0 status)
+            → WithGlobals (json_object pages.options.decimals (string_bytes json)) ⊤
+            (λ names. WritesEach pages names source pages.templates known left 0 status)
             → WritesPages pages known listed left status
         each_written source brought each =
             with_json (both_globals (json_object pages.options.decimals (string_bytes json)) _ Stop _ _ Parts (λ never. never)

@@ -243,7 +243,8 @@ follows_nothing before after status same = (Ok status, inl (same ∙ sym (also_n
 -- the words of a command for one page
 pub words_followed : (words : List (List ℕ)) (asked : Asked) (known : Files) (listed : Folders) (before between after : Requests)
     (status : ℕ) (answer : Result (Unit {0}) Fault) → command_of words ≡ Some asked
-    → WhereKnown known listed (λ all folders. Follows (command_steps all folders asked.choices.options.decimals asked.paths asked.choices.ending) before between answer)
+    → WhereKnown known listed (λ all folders.
+    Follows (command_steps all folders asked.choices.options.decimals asked.paths asked.choices.ending) before between answer)
     → after ≡ between → status ≡ exit_status answer
     → FollowsWords words known listed before after status
 words_followed words asked known listed before between after status answer is follows same status_is = λ all folders here there.

@@ -162,7 +162,8 @@ module _ (destination after_after : Option (List ℕ)) (lent : List ℕ) where
       → Executes options ending paths (known_in files) (listed_in folders) fresh (filled output failures) answered
       → ShowsCommand options ending paths files folders output (settled answered flushed)
   shown_command options ending paths files folders output failures answered flushed runs =
-      gathers_follow options.decimals paths ending (known_in files) (listed_in folders) _ _ _ _ (shown_nothing output failures answered flushed)
+      gathers_follow options.decimals paths ending (known_in files) (listed_in folders) _ _ _ _
+      (shown_nothing output failures answered flushed)
       (λ text globals partials. shown_text options text globals partials output failures answered flushed) runs
 
 module _ (files left : List ℕ → Option (List ℕ)) (folders : Bool → List ℕ → Option (List (List ℕ))) (output : List ℕ) (status : ℕ) where

@@ -108,7 +108,8 @@ globals_unread decimals file path fault (inl is) =
 globals_unread decimals file path fault (inr memory) = inr memory
 
 -- globals that are a text have the trouble of its JSON
-pub globals_known : (decimals : Bool) (file : Option (List ℕ)) (here : Option (Option (List ℕ))) (path : List ℕ) (text : String Global) → here ≡ Some file
+pub globals_known : (decimals : Bool) (file : Option (List ℕ)) (here : Option (Option (List ℕ))) (path : List ℕ) (text : String Global)
+    → here ≡ Some file
     → WithText here (Stops (Ok text)) (λ bytes. Brings (string_bytes {Z = Global}) bytes (Ok text))
     → globals_trouble decimals path file ≡ object_trouble path (json_object decimals (string_bytes text))
 globals_known decimals file here path text known read =
@@ -118,7 +119,8 @@ globals_known decimals file here path text known read =
     ap (λ t. option_map_or Some t (object_trouble path (json_object decimals (unwrap_or file [])))) none
     ∙ ap (λ b. object_trouble path (json_object decimals b)) (brought file text there)
 
-pub globals_refused : (decimals : Bool) (file : Option (List ℕ)) (here : Option (Option (List ℕ))) (path : List ℕ) (text : String Global) (fault : Fault)
+pub globals_refused : (decimals : Bool) (file : Option (List ℕ)) (here : Option (Option (List ℕ))) (path : List ℕ) (text : String Global)
+    (fault : Fault)
     → here ≡ Some file
     → WithText here (Stops (Ok text)) (λ bytes. Brings (string_bytes {Z = Global}) bytes (Ok text))
     → ReportsSome (object_trouble path (json_object decimals (string_bytes text))) fault
@@ -242,7 +244,8 @@ folder_named files folders ending folder named is =
     ap (λ (f : Option (Bor (List ℕ))). partials_steps files folders (option_words (option_map (λ (w : Bor (List ℕ)). w.now) f)) ending) is
 
 -- a command
-module _ (files : FilesAt) (folders : FoldersAt) (decimals : Bool) (template globals : List ℕ) (words : List (List ℕ)) (ending : Option (List ℕ))
+module _ (files : FilesAt) (folders : FoldersAt) (decimals : Bool) (template globals : List ℕ) (words : List (List ℕ))
+    (ending : Option (List ℕ))
     (before : Requests) where
   abbrev Steps : List Step
   Steps = command_steps files folders decimals (template ∷ globals ∷ words) ending
@@ -305,12 +308,14 @@ module _ (files : FilesAt) (folders : FoldersAt) (pages : AskedPages) (before : 
   pages_stop after fault same reports =
       follows_stop (pages_steps files folders pages) before after fault
       (collects_stop (globals_at files pages.options.decimals pages.globals ∷ []) AfterGlobals before after fault
-      (one_stops (reading pages.globals) (globals_trouble pages.options.decimals pages.globals (files pages.globals)) before after fault same reports))
+      (one_stops (reading pages.globals)
+      (globals_trouble pages.options.decimals pages.globals (files pages.globals)) before after fault same reports))
 
   module _ (first : Requests) (made : first ≡ also before (reading pages.globals ∷ []))
       (found : globals_trouble pages.options.decimals pages.globals (files pages.globals) ≡ None) where
     after_pages_globals : CollectsAll (globals_at files pages.options.decimals pages.globals ∷ []) before first
-    after_pages_globals = one_clear (reading pages.globals) (globals_trouble pages.options.decimals pages.globals (files pages.globals)) before first made found
+    after_pages_globals = one_clear (reading pages.globals)
+        (globals_trouble pages.options.decimals pages.globals (files pages.globals)) before first made found
 
     pub pages_partials_stop : (after : Requests) (fault : Fault) → CollectsSome PagesParts first after fault
         → FollowsFault (pages_steps files folders pages) before after fault

@@ -1,5 +1,6 @@
 -- The turns of a `for` are the bodies of its items.
-use Rattle.std.proofs.Common.{◌≡◌, ℕ, suc, ◌+◌, List, [], ◌∷◌, length, Bool, true, false, cond, None, Some, Result, Ok, Err, refl, ap, ◌∙◌, add-one}
+use Rattle.std.proofs.Common.{◌≡◌, ℕ, suc, ◌+◌, List, [], ◌∷◌, length, Bool, true, false}
+use Rattle.std.proofs.Common.{cond, None, Some, Result, Ok, Err, refl, ap, ◌∙◌, add-one}
 use Rattle.liquid_error.specs.meaning.Refusal.{Refusal, ok_then}
 use Rattle.liquid_value.specs.meaning.Tree.{Tree}
 use Rattle.liquid_runtime.specs.meaning.Frames.{no_frame}

@@ -47,7 +47,8 @@ module _ {Reg : Type 0} (fresh : Reg) (name : List ℕ) (size columns : ℕ) (bo
       → Ends (opened place t ts v) (text_between columns place true ++ (text ++ later)) x
   opens place t ts v w x text later first second =
       then_ends (writes (text_between columns place true) v)
-      (λ x. and_then (asks x) (λ y. and_then (cell_at place t y) (rest_at (place + 1) ts))) v x (text_between columns place true) (text ++ later) (writes_ends (text_between columns place true) v)
+      (λ x. and_then (asks x) (λ y. and_then (cell_at place t y) (rest_at (place + 1) ts))) v x (text_between columns place true)
+      (text ++ later) (writes_ends (text_between columns place true) v)
       (then_ends (asks v) (λ y. and_then (cell_at place t y) (rest_at (place + 1) ts)) v x [] (text ++ later) (asks_ends v)
       (then_ends (cell_at place t v) (rest_at (place + 1) ts) w x text later first second))
 

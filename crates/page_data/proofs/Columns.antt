@@ -42,7 +42,8 @@ next_field i [] fields ms h = absurd (omega arith)
 next_field zero (name ∷ names) [] ms h = sym (none_left names ms)
 next_field zero (name ∷ names) (field ∷ fields) ms h = refl
 next_field (suc i) (name ∷ names) [] ms h =
-    none_left (drop i names) ms ∙ sym (none_left (drop (suc i) names) (put_field (field_at names i) None ms) ∙ no_field (field_at names i) ms)
+    none_left (drop i names) ms ∙ sym
+    (none_left (drop (suc i) names) (put_field (field_at names i) None ms) ∙ no_field (field_at names i) ms)
 next_field (suc i) (name ∷ names) (field ∷ fields) ms h = next_field i names fields ms (omega arith)
 
 pub one_more_field : (i : ℕ) (names fields : List (List ℕ)) (ms : Members) → i < length names

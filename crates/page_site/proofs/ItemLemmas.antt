@@ -69,7 +69,8 @@ all_before before after partials names (item ∷ items) known left status result
 )
 
 -- one file, by what was returned for it, before its fault is reported
-pub item_written : (answers : Answers) (partials : List ℕ → Option (List ℕ)) (names : Members) (item : ItemShape) (known between left : Files)
+pub item_written : (answers : Answers) (partials : List ℕ → Option (List ℕ)) (names : Members) (item : ItemShape)
+    (known between left : Files)
     (one : ℕ) (r : Result (Unit {0}) SiteFault)
     → OnOk r ((made : List ℕ) × IsMade answers partials names known item made × Replaces known between item.target made)
     → OnErr r (Same known between) → left ≡ between → OnOk r (one ≡ 0) → OnErr r (one ≢ 0)

@@ -88,6 +88,8 @@ pub one_read : (called : PartialNames) (rest : Option (List ℕ)) (name other : 
     (old new : BTreeMap (String Global) (String Global)) (text : List ℕ) → files (file_in folder other) ≡ Some text
     → partial_text new name ≡ (if bytes_eq (partial_name called other) name then Some text else partial_text old name)
     → option_or rest (partial_text new name)
-    ≡ option_or (option_or rest (if bytes_eq (partial_name called other) name then files (file_in folder other) else None)) (partial_text old name)
+    ≡ option_or (option_or rest (if bytes_eq (partial_name called other) name then files (file_in folder other) else None))
+    (partial_text old name)
 one_read called rest name other files folder old new text is put =
-    ap (option_or rest) put ∙ or_chosen rest (bytes_eq (partial_name called other) name) (files (file_in folder other)) (partial_text old name) text is
+    ap (option_or rest) put ∙ or_chosen rest (bytes_eq (partial_name called other) name) (files (file_in folder other))
+    (partial_text old name) text is

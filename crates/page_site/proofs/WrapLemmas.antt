@@ -114,11 +114,12 @@ pub wrapped_before : (before after : Answers) (partials : List ℕ → Option (L
 wrapped_before before after partials names [] seen None content page same h = h
 wrapped_before before after partials names [] seen (Some name) content page same h = h
 wrapped_before before after partials names (layout ∷ layouts) seen None content page same h = h
-wrapped_before before after partials names (layout ∷ layouts) seen (Some name) content page same (made, (new, found, splits, answer), rest) = (
-  made,
-  (new, found, splits, same _ _ _ answer),
-  wrapped_before before after partials names layouts (seen ++ name ∷ []) (layout_in layout.matter) made page same rest,
-)
+wrapped_before before after partials names (layout ∷ layouts) seen (Some name) content page same
+    (made, (new, found, splits, answer), rest) = (
+      made,
+      (new, found, splits, same _ _ _ answer),
+      wrapped_before before after partials names layouts (seen ++ name ∷ []) (layout_in layout.matter) made page same rest,
+    )
 
 -- a page, by what its text and its layouts came to
 pub page_wrapped : (before after : Answers) (partials : List ℕ → Option (List ℕ)) (names : Members) (whole : List ℕ)
@@ -156,11 +157,12 @@ broken_in_before : (before after : Answers) (partials : List ℕ → Option (Lis
 broken_in_before before after partials names layouts seen None content trouble same h = h
 broken_in_before before after partials names [] seen (Some name) content trouble same h =
     broken_before before after partials names seen name content trouble same h
-broken_in_before before after partials names (layout ∷ layouts) seen (Some name) content trouble same (made, (new, found, splits, answer), rest) = (
-  made,
-  (new, found, splits, same _ _ _ answer),
-  broken_in_before before after partials names layouts (seen ++ name ∷ []) (layout_in layout.matter) made trouble same rest,
-)
+broken_in_before before after partials names (layout ∷ layouts) seen (Some name) content trouble same
+    (made, (new, found, splits, answer), rest) = (
+      made,
+      (new, found, splits, same _ _ _ answer),
+      broken_in_before before after partials names layouts (seen ++ name ∷ []) (layout_in layout.matter) made trouble same rest,
+    )
 
 -- why a page has no end, by what its text and its layouts came to
 pub page_broken : (before after : Answers) (partials : List ℕ → Option (List ℕ)) (names : Members) (whole : List ℕ)

@@ -41,7 +41,8 @@ abbrev pub the_blocks : NameMap SiteBlock
 the_blocks =
     under_names plugin.start_of empty
     (Library (block.If Same) ∷ Library (block.Unless Same) ∷ Library (block.Case Same) ∷ Library (block.For TextItself)
-    ∷ Library block.Tablerow ∷ Library block.Capture ∷ Library block.Ifchanged ∷ Library block.Comment ∷ Library block.Raw ∷ Own Highlight ∷ [])
+    ∷ Library block.Tablerow ∷ Library block.Capture ∷ Library block.Ifchanged ∷ Library block.Comment ∷ Library block.Raw ∷ Own Highlight
+    ∷ [])
 
 -- what a language of such tags and blocks means, by what its filters make of their arguments
 abbrev pub meaning_of : {U F : Type 0} → (U → Arguments → Result F Refusal)

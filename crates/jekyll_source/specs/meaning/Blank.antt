@@ -23,7 +23,8 @@ is_end name = starts_with nat_eq name (codes "end") && is_start (drop 3 name)
 -- the other tags that write nothing
 abbrev pub is_silent : List ℕ → Bool
 is_silent name =
-    ((bytes_eq name (codes "assign") || bytes_eq name (codes "comment")) || (bytes_eq name (codes "endcomment") || bytes_eq name (codes "endraw")))
+    ((bytes_eq name (codes "assign") || bytes_eq name (codes "comment"))
+    || (bytes_eq name (codes "endcomment") || bytes_eq name (codes "endraw")))
     || ((bytes_eq name (codes "else") || bytes_eq name (codes "elsif")) || bytes_eq name (codes "when"))
 
 abbrev pub is_white_text : List ℕ → Bool

@@ -49,4 +49,5 @@ fitted tag new =
     let grown = length new - length tag.body in
     let tail = shorter_end grown tag.tail in
     let lead = shorter_start (grown - (length tag.tail - length tail)) tag.lead in
-    tag.dash ++ (lead ++ (tag.name ++ (tag.gap ++ (new ++ (tail ++ (replicate (length tag.body - length new) (byte " ") ++ tag.end_dash))))))
+    tag.dash ++ (lead ++ (tag.name ++
+    (tag.gap ++ (new ++ (tail ++ (replicate (length tag.body - length new) (byte " ") ++ tag.end_dash))))))

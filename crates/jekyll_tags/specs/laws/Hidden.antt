@@ -33,14 +33,16 @@ module _ {F Reg : Type 0} (m : FilterMeaning F) where
   chain_hidden : (g : Names) (v : View Reg) (c : ChainShape F) → chain_value m c (hiding g v) ≡ chain_value m c (hiding empty v)
   chain_hidden g v c = ap (λ r. ok_then r (filtered m (erase (hiding empty v)) c.filters)) (evaluate_hidden g v c.entry)
 
-  pub texts_hidden : (g : Names) (v : View Reg) (cs : List (ChainShape F)) → joined_texts m (hiding g v) cs ≡ joined_texts m (hiding empty v) cs
+  pub texts_hidden : (g : Names) (v : View Reg) (cs : List (ChainShape F))
+      → joined_texts m (hiding g v) cs ≡ joined_texts m (hiding empty v) cs
   texts_hidden g v [] = refl
   texts_hidden g v (c ∷ cs) =
       ap (λ r. ok_then (ok_then r (λ t. Ok (render t))) (λ text. ok_then (joined_texts m (hiding g v) cs) (λ rest. Ok (text ++ rest))))
       (chain_hidden g v c)
       ∙ ap (λ r. ok_then (chain_text m (hiding empty v) c) (λ text. ok_then r (λ rest. Ok (text ++ rest)))) (texts_hidden g v cs)
 
-  turn_hidden : (i : JekyllInclusionShape F) (g : Names) (v : View Reg) → inclusion_turn m i (hiding g v) ≡ inclusion_turn m i (hiding empty v)
+  turn_hidden : (i : JekyllInclusionShape F) (g : Names) (v : View Reg)
+      → inclusion_turn m i (hiding g v) ≡ inclusion_turn m i (hiding empty v)
   turn_hidden i g v =
       ap (λ r. ok_then r (λ name. ok_then (members_given (hiding g v) no_members i.pairs) (λ ms.
       Ok (partial_for i.tag name (length i.pairs) ms)))) (texts_hidden g v i.name)

@@ -22,7 +22,8 @@ AskedComesTo s l asked globals page =
 -- the same if its texts are as Jekyll's authors write them
 abbrev pub JekyllComesTo : {Reg F T P L B Q : Type 0} → Settings Reg F T P B Q → Lang F T L B → Asked → List ℕ → Page → Type 0
 JekyllComesTo s l asked globals page =
-    ComesTo s l (page_options asked) (text_as_read asked.text.now) globals (map partial_as_read (map bytes_of_partial asked.partials.now)) page
+    ComesTo s l (page_options asked) (text_as_read asked.text.now) globals
+    (map partial_as_read (map bytes_of_partial asked.partials.now)) page
 
 -- the page over these globals is this one, if what was read is that of some bytes in some language, which come to it
 pub record PreparedComesTo {X S Reg F T P B Q : Type 0} (L : Type 0) (s : Settings Reg F T P B Q) (nodes : X → List (NodeShape F T B))

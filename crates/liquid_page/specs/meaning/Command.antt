@@ -114,7 +114,8 @@ module _ (answers : Answers) (site : Site) (known left : List ℕ → Option (Op
   Ends (Some output) status = Writes status
 
 -- nothing is printed or written
-abbrev pub Fails : (List ℕ → Option (Option (List ℕ))) → (List ℕ → Option (Option (List ℕ))) → Option (List ℕ) → Option (List ℕ) → ℕ → Type 0
+abbrev pub Fails : (List ℕ → Option (Option (List ℕ))) → (List ℕ → Option (Option (List ℕ))) → Option (List ℕ) → Option (List ℕ) → ℕ
+    → Type 0
 Fails known left before after status = (status ≢ 0) × (left ≡ known) × (after ≡ before)
 
 -- the pages that the words name are printed or written over what the words give; or nothing is

@@ -76,7 +76,8 @@ WritesNothing known left status = Same known left × ((status ≡ 3) ⊎ (status
 abbrev pub WritesPages : AskedPages → (List ℕ → Option (Option (List ℕ))) → (Bool → List ℕ → Option (Option (List (List ℕ))))
     → (List ℕ → Option (Option (List ℕ))) → ℕ → Type 0
 WritesPages pages known listed left status =
-    GathersGlobals pages.options.decimals pages.globals (option_words pages.partials) pages.ending known listed (WritesNothing known left status)
+    GathersGlobals pages.options.decimals pages.globals (option_words pages.partials) pages.ending known listed
+    (WritesNothing known left status)
     (λ globals partials. ((status ≡ 1) × Same known left) ⊎ WritesEach pages globals partials pages.templates known left 0 status)
 
 -- what the words do to an output, by what they do to a sink or to the content of a writer, and to files

@@ -13,7 +13,8 @@ use Rattle.liquid_std.specs.meaning.Tags.{tag_nodes}
 
 module _ {Reg F : Type 0} (held : MarksIn Reg) (fresh : Reg) (m : FilterMeaning F) where
   -- what templates of the standard language are rendered with
-  abbrev pub standard : Option (Found F (StdTagShape F) StdBlockShape) → Setting Reg F (StdTagShape F) StdTagProgressShape StdBlockShape StdProgressShape
+  abbrev pub standard : Option (Found F (StdTagShape F) StdBlockShape)
+      → Setting Reg F (StdTagShape F) StdTagProgressShape StdBlockShape StdProgressShape
   standard finds = record {
     fresh = fresh;
     filters = m;

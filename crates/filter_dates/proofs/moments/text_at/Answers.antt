@@ -9,7 +9,8 @@ pub returns-in-Some-clause-fits : goal.returns-in-Some-clause-fits
 returns-in-Some-clause-fits c = inl c.in-Some.ensures.fits
 
 -- a string that is no plain one
-other : (text : List ℕ) (now dt : DateTime) → ((e : DateTime) → ¬ (IsPlainTextAt now text e)) → IsTextAt now text dt → IsMomentInText text dt
+other : (text : List ℕ) (now dt : DateTime) → ((e : DateTime) → ¬ (IsPlainTextAt now text e)) → IsTextAt now text dt
+    → IsMomentInText text dt
 other text now dt none (inl is) = absurd (none dt is)
 other text now dt none (inr (_, is)) = is
 

@@ -22,7 +22,8 @@ returns-then-ends_name c =
     let same = c.as_bytes-bytes.ensures.value in
     let within : c.loop-at.at < length c.args.text.now = rw (sym same) c.loop-at-test.true in
     let ends = rw same at (sym c.ends_name.ensures ∙ c.if-ends_name.true) in
-    some_split c.args.text.now _ _ _ c.loop-at.at (name_ends c.args.text.now _ c.loop-at.at c.loop-at.inside within ends c.loop-at.invariant)
+    some_split c.args.text.now _ _ _ c.loop-at.at
+    (name_ends c.args.text.now _ c.loop-at.at c.loop-at.inside within ends c.loop-at.invariant)
     c.split_at.ensures.front c.split_at.ensures.back
 
 pub loop-at-preserved : goal.loop-at-preserved

@@ -10,6 +10,7 @@ loop-rest-preserved c =
     let grown : map piece_view c.push.new.self.items ≡ map piece_view c.loop-rest.pieces.items ++ piece_view c.first_piece.result.0 ∷ [] =
     ap (map piece_view) c.in_ok-push.ensures.items ∙ map-append piece_view c.loop-rest.pieces.items (c.first_piece.result.0 ∷ []) in
     record {
-      whole = turn c.first_piece.result.1.now c.loop-rest.rest.now _ _ _ _ more c.first_piece.ensures.value grown c.loop-rest.invariant.whole;
+      whole = turn c.first_piece.result.1.now c.loop-rest.rest.now _ _ _ _ more c.first_piece.ensures.value grown
+          c.loop-rest.invariant.whole;
       utf8 = search rules;
     }

@@ -8,4 +8,5 @@ use Rattle.jekyll_tags.proofs.inclusion.evaluate_members.Given as goal
 abbrev pub invariant-loop-pair : goal.invariant-loop-pair
 invariant-loop-pair g l =
     let v = g.R.Runtime.view l.runtime in
-    members_given v no_members (map pair_of l.pairs) ≡ members_given v (members_view l.members.entries) (map pair_of (drop l.pair-index l.pairs))
+    members_given v no_members (map pair_of l.pairs)
+    ≡ members_given v (members_view l.members.entries) (map pair_of (drop l.pair-index l.pairs))

@@ -17,5 +17,6 @@ returns-in_default-lend_partials c =
 
 pub returns : goal.returns
 returns c =
-    all_leave (λ globals old new o leaves shown comes. leaves shown (comes_as_read _ _ _ _ shown _ _ _ _ (search rules) (search rules) comes))
+    all_leave (λ globals old new o leaves shown comes.
+    leaves shown (comes_as_read _ _ _ _ shown _ _ _ _ (search rules) (search rules) comes))
     c.render_each_in.ensures

@@ -60,7 +60,8 @@ convert_members-loop-member-preserved t c =
     let xs = c.deref-member-items.result.now in
     let x = c.member-item.result in
     let later = drop (l.member-index + 1) xs in
-    let here : drop l.member-index xs ≡ x ∷ later = drop_more xs l.member-index x (omega arith) ∙ ap (λ y. y ∷ later) (sym c.member-item.is) in
+    let here : drop l.member-index xs ≡ x ∷ later = drop_more xs l.member-index x (omega arith)
+    ∙ ap (λ y. y ∷ later) (sym c.member-item.is) in
     let so_far = l.invariant ∙ ap (λ ys. members_given (json_members ys) (members_view l.object.entries)) here in
     let inserted = ap members_view c.in_ok-insert.ensures.entries ∙ members_view-insert_entry l.object.entries c.in_ok-name.name
     c.in_ok-value.value in

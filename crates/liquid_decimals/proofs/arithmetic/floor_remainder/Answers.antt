@@ -14,5 +14,6 @@ returns-then-divisor-lt0 c =
     let negated_dividend : to_z w128 (of_z w128 (pos 0 -ℤ to_z w128 (of_z w128 a))) ≡ pos 0 -ℤ a = omega (arith, ints) in
     let negated_divisor : to_z w128 (of_z w128 (pos 0 -ℤ to_z w128 (of_z w128 b))) ≡ pos 0 -ℤ b = omega (arith, ints) in
     let rest = rw (negated_dividend, negated_divisor) at c.rem_euclid.ensures.value in
-    let result : to_z w128 (of_z w128 (pos 0 -ℤ to_z w128 (of_z w128 c.rem_euclid.result))) ≡ pos 0 -ℤ c.rem_euclid.result = omega (arith, ints) in
+    let result : to_z w128 (of_z w128 (pos 0 -ℤ to_z w128 (of_z w128 c.rem_euclid.result)))
+    ≡ pos 0 -ℤ c.rem_euclid.result = omega (arith, ints) in
     result ∙ floor_remainder-negated a b c.rem_euclid.result low rest

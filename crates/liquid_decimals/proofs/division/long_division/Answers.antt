@@ -12,7 +12,8 @@ returns-then-quotient-from c =
 pub loop-digit-preserved : goal.loop-digit-preserved
 loop-digit-preserved c =
     let below = digit_below_10 c.loop-digit.rest c.args.divisor c.loop-digit.invariant.1 in (
-      next_digit (c.args.dividend * 10 ^ c.loop-digit._digit) c.args.divisor c.loop-digit.quotient c.loop-digit.rest c.requires.positive c.loop-digit.invariant.0
+      next_digit (c.args.dividend * 10 ^ c.loop-digit._digit) c.args.divisor c.loop-digit.quotient c.loop-digit.rest c.requires.positive
+          c.loop-digit.invariant.0
           ∙ tenfold_power c.args.dividend c.loop-digit._digit,
       omega arith,
       grind arith,

@@ -12,7 +12,8 @@ returns-then-is_empty-clause-only c = λ rest e m.
     absurd (omega (arith, empty, some))
 
 pub returns-then-is_empty-2-clause-only : goal.returns-then-is_empty-2-clause-only
-returns-then-is_empty-2-clause-only c = λ rest e m. only_element _ _ c.opener_element.result.0 c.opener_element.ensures.0 c.opener_element.ensures.1
+returns-then-is_empty-2-clause-only c =
+    λ rest e m. only_element _ _ c.opener_element.result.0 c.opener_element.ensures.0 c.opener_element.ensures.1
     c.opener_element.ensures.2 rest e m
 
 pub returns-then-is_empty-2-clause-shorter : goal.returns-then-is_empty-2-clause-shorter

@@ -18,7 +18,8 @@ returns-in_err-names-in-Some-clause-requests g t c =
     let before = g.F.Folder.requests c.args.files.now in
     let after = g.F.Folder.requests c.read_over.new.files in
     subst (λ requests. Follows requests before after (is_ok c.from_residual.result)) (sym all)
-    (follows_stop (f word ∷ []) rest before after (is_ok c.read_over.result) (is_ok c.from_residual.result) failed c.read_over.ensures.requests)
+    (follows_stop (f word ∷ []) rest before after (is_ok c.read_over.result)
+    (is_ok c.from_residual.result) failed c.read_over.ensures.requests)
 
 pub returns-in_ok-names-in-Some-clause-requests : goal.returns-in_ok-names-in-Some-clause-requests
 returns-in_ok-names-in-Some-clause-requests g t c =
@@ -36,10 +37,13 @@ returns-in_ok-names-in-Some-clause-requests g t c =
 
 pub returns-in_ok-names-in-Some-clause-read : goal.returns-in_ok-names-in-Some-clause-read
 returns-in_ok-names-in-Some-clause-read g t c = λ all known.
-    let words : map (λ word. word.now) c.args.words.now ≡ c.in-Some.word.now.now ∷ map (λ word. word.now) c.in-Some.rest.now = search rules in
+    let words : map (λ word. word.now) c.args.words.now ≡ c.in-Some.word.now.now
+    ∷ map (λ word. word.now) c.in-Some.rest.now = search rules in
     let was = c.read_over.ensures.read all known in
-    let first : ReadsOver all c.in-Some.word.now.now (members_view c.args.names.entries) (members_view c.in_ok-names-in-Some.names.entries) =
+    let first : ReadsOver all c.in-Some.word.now.now (members_view c.args.names.entries)
+    (members_view c.in_ok-names-in-Some.names.entries) =
     search rules in
-    data_joined (λ object. members_view object.entries) c.read_all.result all (map (λ word. word.now) c.args.words.now) c.in-Some.word.now.now
+    data_joined (λ object. members_view object.entries) c.read_all.result all
+    (map (λ word. word.now) c.args.words.now) c.in-Some.word.now.now
     (map (λ word. word.now) c.in-Some.rest.now) (members_view c.args.names.entries) (members_view c.in_ok-names-in-Some.names.entries)
     words first (c.read_all.ensures.read all (c.read_over.ensures.same ∙ known))

@@ -25,5 +25,6 @@ returns-clause-read g c = λ all known.
     ≡ merged (members_view c.args.names.entries) (under (name_over c.in-Some.format name) (members_view c.in_ok-given.given.entries)) =
     search rules in
     given_at all (g.F.Folder.known c.args.files.now) word c.data_word-word.result.path.now text c.in-Some.format name
-    (members_view c.in_ok-given.given.entries) (members_view c.args.names.entries) (members_view c.in_ok-put_over.field-0.entries) known path
+    (members_view c.in_ok-given.given.entries) (members_view c.args.names.entries)
+    (members_view c.in_ok-put_over.field-0.entries) known path
     named may format read after

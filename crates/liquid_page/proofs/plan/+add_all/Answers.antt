@@ -38,7 +38,8 @@ returns-in_ok-add_items-in-Some-clause-requests g t c =
 
 pub returns-in_ok-add_items-in-Some-clause-items : goal.returns-in_ok-add_items-in-Some-clause-items
 returns-in_ok-add_items-in-Some-clause-items g t c = λ folders listed.
-    let words : map (λ word. word.now) c.args.words.now ≡ c.in-Some.word.now.now ∷ map (λ word. word.now) c.in-Some.rest.now = search rules in
+    let words : map (λ word. word.now) c.args.words.now ≡ c.in-Some.word.now.now
+    ∷ map (λ word. word.now) c.in-Some.rest.now = search rules in
     let first : map item_of c.add_items.new.items.items ≡ map item_of c.args.items.now.items
     ++ items_at c.args.folder.now (path_named c.in-Some.word.now.now) (folders true (path_named c.in-Some.word.now.now)) =
     search rules in

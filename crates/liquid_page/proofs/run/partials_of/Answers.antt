@@ -9,7 +9,8 @@ use Rattle.liquid_page.proofs.run.partials_of.Goals as goal
 pub returns-in-Some-clause-partials : goal.returns-in-Some-clause-partials
 returns-in-Some-clause-partials g c = λ all folders known listed.
     let folder : text_given c.args.folder ≡ Some c.in-Some.folder.now = search rules in
-    subst (λ (f : Option (List ℕ)). IfOk c.read_partials.result (λ partials. PartialsAre all folders c.args.called f (partial_text partials))) (sym folder)
+    subst (λ (f : Option (List ℕ)).
+    IfOk c.read_partials.result (λ partials. PartialsAre all folders c.args.called f (partial_text partials))) (sym folder)
     (c.read_partials.ensures.partials all folders known listed)
 
 pub returns-in-Some-clause-requests : goal.returns-in-Some-clause-requests

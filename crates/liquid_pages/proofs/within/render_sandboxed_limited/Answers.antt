@@ -3,7 +3,8 @@ use Rattle.liquid_pages.proofs.within.render_sandboxed_limited.Goals as goal
 
 pub returns-clause-renders : goal.returns-clause-renders
 returns-clause-renders g c =
-    limits_render c.args.room _ _ _ _ _ _ _ _ c.render_sandboxed_within.new.page.gate.limits _ c.requires c.render_sandboxed_within.ensures.renders
+    limits_render c.args.room _ _ _ _ _ _ _ _ c.render_sandboxed_within.new.page.gate.limits _ c.requires
+    c.render_sandboxed_within.ensures.renders
 
 pub returns-clause-same : goal.returns-clause-same
 returns-clause-same g c = same_name _ _ _ _ _ _ _ _ _ _ c.render_sandboxed_within.ensures.renders

@@ -133,8 +133,10 @@ returns-in_err-template-clause-requests g c = λ all folders known listed.
     let first = g.F.Folder.requests c.text_of.new.files in
     let fault = c.in_err-template.field-0.0 in
     let is : c.from_residual.result ≡ Err fault = search rules in
-    subst (λ r. Follows (command_steps all folders c.args.command.choices.options.decimals (template ∷ globals ∷ words) ending) before first r) (sym is)
-    (template_stops all folders c.args.command.choices.options.decimals template globals words ending before first fault c.text_of.ensures.requests
+    subst (λ r. Follows (command_steps all folders c.args.command.choices.options.decimals (template ∷ globals ∷ words) ending) before first
+    r) (sym is)
+    (template_stops all folders c.args.command.choices.options.decimals template globals words ending before first fault
+    c.text_of.ensures.requests
     (text_known (all template) _ template (Err fault) (ap (λ (k : Files). k template) known) c.in_err-template.ensures.text
     c.in_err-template.ensures.reports))
 
@@ -153,8 +155,10 @@ returns-in_err-json-clause-requests g c = λ all folders known listed.
     (ap (λ (k : Files). k template) known) c.in_ok-template.ensures.text tt in
     let fault = c.in_err-json.field-0.0 in
     let is : c.from_residual-in_err-json.result ≡ Err fault = search rules in
-    subst (λ r. Follows (command_steps all folders c.args.command.choices.options.decimals (template ∷ globals ∷ words) ending) before second r) (sym is)
-    (globals_stop all folders c.args.command.choices.options.decimals template globals words ending before first c.text_of.ensures.requests none second fault
+    subst (λ r. Follows (command_steps all folders c.args.command.choices.options.decimals (template ∷ globals ∷ words) ending) before
+    second r) (sym is)
+    (globals_stop all folders c.args.command.choices.options.decimals template globals words ending before first c.text_of.ensures.requests
+    none second fault
     c.text_of-2.ensures.requests
     (globals_unread c.args.command.choices.options.decimals (all globals) globals fault (text_known (all globals) _ globals
     (Err fault) here c.in_err-json.ensures.text c.in_err-json.ensures.reports)))
@@ -174,8 +178,10 @@ returns-in_err-globals-clause-requests g c = λ all folders known listed.
     (ap (λ (k : Files). k template) known) c.in_ok-template.ensures.text tt in
     let fault = c.in_err-globals.field-0.0 in
     let is : c.from_residual-in_err-globals.result ≡ Err fault = search rules in
-    subst (λ r. Follows (command_steps all folders c.args.command.choices.options.decimals (template ∷ globals ∷ words) ending) before second r) (sym is)
-    (globals_stop all folders c.args.command.choices.options.decimals template globals words ending before first c.text_of.ensures.requests none second fault
+    subst (λ r. Follows (command_steps all folders c.args.command.choices.options.decimals (template ∷ globals ∷ words) ending) before
+    second r) (sym is)
+    (globals_stop all folders c.args.command.choices.options.decimals template globals words ending before first c.text_of.ensures.requests
+    none second fault
     c.text_of-2.ensures.requests
     (globals_refused c.args.command.choices.options.decimals (all globals) _ globals c.in_ok-json.json fault here c.in_ok-json.ensures.text
     (rw c.as_str.ensures.value at c.in_err-globals.ensures.reports)))
@@ -199,8 +205,10 @@ returns-in_err-partials-clause-requests g c = λ all folders known listed.
     let fit =
     globals_known c.args.command.choices.options.decimals (all globals) _ globals c.in_ok-json.json here c.in_ok-json.ensures.text
     ∙ (rw c.as_str.ensures.value at c.in_ok-globals.ensures.reports) in
-    subst (λ r. Follows (command_steps all folders c.args.command.choices.options.decimals (template ∷ globals ∷ words) ending) before after r) (sym is)
-    (partials_stop all folders c.args.command.choices.options.decimals template globals words ending before first c.text_of.ensures.requests none second
+    subst (λ r. Follows (command_steps all folders c.args.command.choices.options.decimals (template ∷ globals ∷ words) ending) before after
+    r) (sym is)
+    (partials_stop all folders c.args.command.choices.options.decimals template globals words ending before first c.text_of.ensures.requests
+    none second
     c.text_of-2.ensures.requests fit after fault
     (c.in_err-partials.ensures.requests all folders (c.text_of-2.ensures.same ∙ c.text_of.ensures.same ∙ known)
     (c.text_of-2.ensures.listed ∙ c.text_of.ensures.listed ∙ listed)))
@@ -221,7 +229,8 @@ returns-in-Ok-clause-requests g c = λ all folders known listed.
     let fit =
     globals_known c.args.command.choices.options.decimals (all globals) _ globals c.in_ok-json.json here c.in_ok-json.ensures.text
     ∙ (rw c.as_str.ensures.value at c.in_ok-globals.ensures.reports) in
-    all_followed all folders c.args.command.choices.options.decimals template globals words ending before first c.text_of.ensures.requests none second c.text_of-2.ensures.requests
+    all_followed all folders c.args.command.choices.options.decimals template globals words ending before first c.text_of.ensures.requests
+    none second c.text_of-2.ensures.requests
     fit (g.F.Folder.requests c.partials_of.new.files) (Ok (tt {0}))
     (c.in_ok-partials.ensures.requests all folders (c.text_of-2.ensures.same ∙ c.text_of.ensures.same ∙ known)
     (c.text_of-2.ensures.listed ∙ c.text_of.ensures.listed ∙ listed)) refl
@@ -243,7 +252,8 @@ returns-clause-requests g c = λ all folders known listed.
     globals_known c.args.command.choices.options.decimals (all globals) _ globals c.in_ok-json.json here c.in_ok-json.ensures.text
     ∙ (rw c.as_str.ensures.value at c.in_ok-globals.ensures.reports) in
     let answer : Result (Unit {0}) Fault = Err c.refuse.result in
-    all_followed all folders c.args.command.choices.options.decimals template globals words ending before first c.text_of.ensures.requests none second c.text_of-2.ensures.requests
+    all_followed all folders c.args.command.choices.options.decimals template globals words ending before first c.text_of.ensures.requests
+    none second c.text_of-2.ensures.requests
     fit (g.F.Folder.requests c.partials_of.new.files) answer
     (c.in_ok-partials.ensures.requests all folders (c.text_of-2.ensures.same ∙ c.text_of.ensures.same ∙ known)
     (c.text_of-2.ensures.listed ∙ c.text_of.ensures.listed ∙ listed)) c.refuse.ensures.trouble

@@ -14,7 +14,8 @@ returns-clause-prints g c =
 
 pub returns-clause-requests : goal.returns-clause-requests
 returns-clause-requests g c = λ all folders known listed.
-    follows_follow (command_steps all folders (asked_of c.args.command).choices.options.decimals (asked_of c.args.command).paths (asked_of c.args.command).choices.ending)
+    follows_follow (command_steps all folders (asked_of c.args.command).choices.options.decimals (asked_of c.args.command).paths
+    (asked_of c.args.command).choices.ending)
     (g.F.Folder.requests c.args.files.now) (g.F.Folder.requests c.execute-answer.new.files)
     c.execute-answer.result c.settle.result c.settle.ensures.trouble c.settle.ensures.memory
     (c.execute-answer.ensures.requests all folders known listed)

@@ -5,7 +5,8 @@ use Rattle.liquid_template.specs.steps.PartsOf.{parts_of}
 use Rattle.liquid_template.specs.steps.Bound.{partials_size}
 use Rattle.liquid_template.proofs.Shapes.{nodes_drop, nodes_end, size_member, size_part, node_text, node_brief, node_name, node_chain}
 use Rattle.liquid_template.proofs.Shapes.{node_tag, node_block}
-use Rattle.liquid_template.proofs.Renderings.{stands, stands_not, left_more, left_none, none_yet, start_goes_at, node_puts, node_chains, true-not-false}
+use Rattle.liquid_template.proofs.Renderings.{stands, stands_not, left_more, left_none, none_yet}
+use Rattle.liquid_template.proofs.Renderings.{start_goes_at, node_puts, node_chains, true-not-false}
 use Rattle.liquid_template.proofs.Renderings.{node_tags, node_blocks, part_renders, no_part_renders}
 use Rattle.liquid_template.proofs.Framing.{owed_open, framed_kept}
 use Rattle.liquid_template.proofs.Goings.{

@@ -26,4 +26,5 @@ returns-in-Err-find_within_depth-clause-keeps g c =
 
 pub returns-in-Ok-find_within_depth-clause-keeps : goal.returns-in-Ok-find_within_depth-clause-keeps
 returns-in-Ok-find_within_depth-clause-keeps g c =
-    keeps_both _ _ _ _ _ _ _ _ (keeps_store _ _ _ _ _ _ _ c.in-Ok.ensures.store c.in-Ok.ensures.borrows) c.in-Ok-find_within_depth.ensures.keeps
+    keeps_both _ _ _ _ _ _ _ _ (keeps_store _ _ _ _ _ _ _ c.in-Ok.ensures.store c.in-Ok.ensures.borrows)
+    c.in-Ok-find_within_depth.ensures.keeps

@@ -28,9 +28,11 @@ object_of_table-loop-key-preserved t c =
     record {
       given = member_step (MembersGiven all no_members) k (toml_view c.in-Some.member.now) (toml_members left)
           (members_view l.object.entries) _ (view c.in_ok-value.value)
-          (subst (λ es. (ts : Members) → MembersGiven (toml_members es) (members_view l.object.entries) ts → MembersGiven all no_members ts) here
+          (subst (λ es. (ts : Members) → MembersGiven (toml_members es) (members_view l.object.entries) ts → MembersGiven all no_members ts)
+          here
           l.invariant.given) c.in_ok-value.ensures.given inserted;
-      refused = λ r h. (subst (λ es. (r : Refusal) → MembersRefused (toml_members es) r → MembersRefused all r) here l.invariant.refused) r (inr h);
+      refused = λ r h. (subst (λ es. (r : Refusal) → MembersRefused (toml_members es) r → MembersRefused all r) here l.invariant.refused) r
+          (inr h);
     }
 
 pub object_of_table-returns-in_err-value : goal.object_of_table-returns-in_err-value
@@ -64,7 +66,8 @@ array_of-loop-item-preserved t c =
     let x = c.item-item.result in
     let later = drop (l.item-index + 1) xs in
     let here : drop l.item-index xs ≡ x ∷ later = drop_more xs l.item-index x (omega arith) ∙ ap (λ y. y ∷ later) (sym c.item-item.is) in
-    let given = subst (λ ys. (ts : Items) → ItemsGiven (toml_items ys) ts → ItemsGiven (toml_items xs) (joined (map view l.values.items) ts))
+    let given = subst (λ ys. (ts : Items) → ItemsGiven (toml_items ys) ts
+    → ItemsGiven (toml_items xs) (joined (map view l.values.items) ts))
     here l.invariant.given in
     let wider = subst (λ ys. (r : Refusal) → ItemsRefused (toml_items ys) r → ItemsRefused (toml_items xs) r) here l.invariant.refused in
     rw c.in_ok-push.ensures.items (record {
@@ -94,7 +97,8 @@ array_of-returns t c =
     let l = c.loop-item in
     let xs = c.deref-item-items.result.now in
     let none : drop l.item-index xs ≡ [] = drop_all l.item-index xs (omega arith) in
-    let given = subst (λ ys. (ts : Items) → ItemsGiven (toml_items ys) ts → ItemsGiven (toml_items xs) (joined (map view l.values.items) ts))
+    let given = subst (λ ys. (ts : Items) → ItemsGiven (toml_items ys) ts
+    → ItemsGiven (toml_items xs) (joined (map view l.values.items) ts))
     none l.invariant.given in
     record {
       given = subst (λ ys. ItemsGiven (toml_items ys) (items_view l.values.items)) c.deref-item-items.ensures.value

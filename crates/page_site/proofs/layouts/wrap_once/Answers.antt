@@ -21,7 +21,12 @@ returns-in_err-content-in-Some-clause-trouble g c =
     if_err c.from_residual-in_err-content-in-Some.result fault
     (IsBroken answers partials names (map string_bytes c.args.seen.now) name (string_bytes c.args.content)) (search rules)
     (if_it_is (trouble_of fault) _ _ _ c.in_err-content-in-Some.ensures.trouble
-    (λ answer. (record { whole = c.in-Some.text.now; matter = matter; body = front.body.now }, found, splits, rw c.in_ok-names-in-Some.ensures at answer)))
+    (λ answer. (
+      record { whole = c.in-Some.text.now; matter = matter; body = front.body.now },
+      found,
+      splits,
+      rw c.in_ok-names-in-Some.ensures at answer,
+    )))
 
 pub returns-in_ok-content-in-Some-clause-wraps : goal.returns-in_ok-content-in-Some-clause-wraps
 returns-in_ok-content-in-Some-clause-wraps g c =

@@ -14,7 +14,8 @@ returns-in-Ok-clause-partials g c = λ all folders known listed.
     let folder = c.args.folder.now in
     partials_listed c.read_each.result c.args.called all folder (map string_bytes c.in-Ok.names.items) (folders true folder)
     (listed_names (λ names. map string_bytes names.items) (folders true folder) c.in-Ok.names
-    (subst (λ (f : Bool → List ℕ → Option (Option (List (List ℕ)))). Reads (λ names. map string_bytes names.items) (f true folder) (Ok c.in-Ok.names))
+    (subst (λ (f : Bool → List ℕ → Option (Option (List (List ℕ)))).
+    Reads (λ names. map string_bytes names.items) (f true folder) (Ok c.in-Ok.names))
     listed c.in-Ok.ensures.lists))
     (c.read_each.ensures.partials all (c.list_tree.ensures.same ∙ known))
 
@@ -24,13 +25,15 @@ returns-in-Ok-clause-requests g c = λ folders listed.
     let names = map string_bytes c.in-Ok.names.items in
     let there : folders true folder ≡ Some names =
     listed_names (λ names. map string_bytes names.items) (folders true folder) c.in-Ok.names
-    (subst (λ (f : Bool → List ℕ → Option (Option (List (List ℕ)))). Reads (λ names. map string_bytes names.items) (f true folder) (Ok c.in-Ok.names))
+    (subst (λ (f : Bool → List ℕ → Option (Option (List (List ℕ)))).
+    Reads (λ names. map string_bytes names.items) (f true folder) (Ok c.in-Ok.names))
     listed c.in-Ok.ensures.lists) in
     let before = g.F.Folder.requests c.args.files.now in
     let between = g.F.Folder.requests c.list_tree.new.self in
     let after = g.F.Folder.requests c.read_each.new.files in
     let done = is_ok c.read_each.result in
-    subst (λ (n : Option (List (List ℕ))). Follows (listing true folder ∷ map (λ name. reading (file_in folder name)) (unwrap_or n [])) before after done)
+    subst (λ (n : Option (List (List ℕ))).
+    Follows (listing true folder ∷ map (λ name. reading (file_in folder name)) (unwrap_or n [])) before after done)
     (sym there)
     (follows_then (listing true folder ∷ []) (map (λ name. reading (file_in folder name)) names) before between after done
     (follows_one (listing true folder) before between true c.list_tree.ensures.requests) c.read_each.ensures.requests)

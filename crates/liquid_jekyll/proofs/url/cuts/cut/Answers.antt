@@ -17,7 +17,11 @@ range_from-requires c =
 pub returns-in-Some : goal.returns-in-Some
 returns-in-Some c =
     let found = rw (c.as_bytes.ensures.value, c.as_bytes-2.ensures.value) at c.in-Some.ensures in
-    rw (sym (FindsNeedle-value c.args.text.now c.args.mark.now (Some c.in-Some.at) found), c.range.ensures.value, c.range_from.ensures.value)
+    rw (
+      sym (FindsNeedle-value c.args.text.now c.args.mark.now (Some c.in-Some.at) found),
+      c.range.ensures.value,
+      c.range_from.ensures.value,
+    )
     (let whole : c.in-Some.at - 0 ≡ c.in-Some.at = omega arith in rw whole refl)
 
 pub returns-in-None : goal.returns-in-None

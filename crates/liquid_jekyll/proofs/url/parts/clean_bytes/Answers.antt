@@ -6,7 +6,12 @@ use Rattle.liquid_jekyll.proofs.url.parts.clean_bytes.Goals as goal
 
 pub returns-in_ok-normal-in-Ok : goal.returns-in_ok-normal-in-Ok
 returns-in_ok-normal-in-Ok c =
-    rw (is_utf8-from_IsUtf8 c.args.bytes.now c.in-Ok.ensures.cases.1, ← c.in-Ok.ensures.cases.0, ← c.in_ok-normal-in-Ok.ensures, ← c.as_bytes.ensures.value)
+    rw (
+      is_utf8-from_IsUtf8 c.args.bytes.now c.in-Ok.ensures.cases.1,
+      ← c.in-Ok.ensures.cases.0,
+      ← c.in_ok-normal-in-Ok.ensures,
+      ← c.as_bytes.ensures.value,
+    )
     c.escape.ensures
 
 pub returns-in-Err : goal.returns-in-Err

@@ -17,7 +17,8 @@ invariant_of-self g c =
     record {
       fits =
           λ q j. fits_next (map layer_of s.links.items) s.unlisted q j c.len.result _
-          (omega (arith, c.len.ensures, s.links.ok.0) ∙ sym (map_length layer_of s.links.items)) (c.list.ensures.listed (search rules)) (s.fits q j);
+          (omega (arith, c.len.ensures, s.links.ok.0) ∙ sym (map_length layer_of s.links.items)) (c.list.ensures.listed (search rules))
+          (s.fits q j);
       seals_are = s.seals_are;
       globals_are = s.globals_are;
     }
@@ -26,5 +27,6 @@ pub returns-clause-fits : goal.returns-clause-fits
 returns-clause-fits g c = λ yes q j.
     let s = c.list.new.self in
     fits_push (map layer_of s.links.items) (layer_of c.args.next.now) s.unlisted q j c.len.result _
-    (omega (arith, c.len.ensures, s.links.ok.0) ∙ sym (map_length layer_of s.links.items)) (c.list.ensures.listed (search rules)) (s.fits q j)
+    (omega (arith, c.len.ensures, s.links.ok.0) ∙ sym (map_length layer_of s.links.items)) (c.list.ensures.listed (search rules))
+    (s.fits q j)
     ∙ ap (λ links. listed_at (map layer_of links.items ++ layer_of c.args.next.now ∷ []) (Some c.len.result) q j) c.list.ensures.links

@@ -11,7 +11,8 @@ returns-then-place-seal-clause-value g c =
     let q = c.args.name.now in
     let top = c.args.listed in
     sealed_away top (last_seal ls) c.in-Some.place c.in-Some-find_sandboxed.seal (own_at_top top ls q)
-    (lookup (g.R.Runtime.view c.args.base.now) q) c.in-Some.is (sym c.find_sandboxed.ensures ∙ c.in-Some-find_sandboxed.is) c.if-place-seal.true
+    (lookup (g.R.Runtime.view c.args.base.now) q) c.in-Some.is
+    (sym c.find_sandboxed.ensures ∙ c.in-Some-find_sandboxed.is) c.if-place-seal.true
 
 pub returns-else-place-seal-clause-value : goal.returns-else-place-seal-clause-value
 returns-else-place-seal-clause-value g c =
@@ -20,7 +21,8 @@ returns-else-place-seal-clause-value g c =
     let top = c.args.listed in
     c.look_at.ensures.value ∙ ap (λ o. own_at_top o ls q) (sym c.in-Some.is)
     ∙ above_seal top (last_seal ls) c.in-Some.place c.in-Some-find_sandboxed.seal (own_at_top top ls q)
-    (lookup (g.R.Runtime.view c.args.base.now) q) c.in-Some.is (sym c.find_sandboxed.ensures ∙ c.in-Some-find_sandboxed.is) c.if-place-seal.false
+    (lookup (g.R.Runtime.view c.args.base.now) q) c.in-Some.is
+    (sym c.find_sandboxed.ensures ∙ c.in-Some-find_sandboxed.is) c.if-place-seal.false
 
 pub returns-in-None-find_sandboxed-clause-value : goal.returns-in-None-find_sandboxed-clause-value
 returns-in-None-find_sandboxed-clause-value g c =

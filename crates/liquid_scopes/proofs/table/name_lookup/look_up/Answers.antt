@@ -9,7 +9,8 @@ returns-in-Some-look_at-clause-value g c =
     let s = c.args.table.now in
     let ls = map layer_of s.links.items in
     unlisted_gives (g.R.Runtime.view c.args.base.now) ls c.args.name.now c.find_listed-listed.result
-    (last_seal ls) s.unlisted c.unlisted_over.result c.in-Some.place _ c.unlisted_over.ensures c.in-Some.is c.find_listed-listed.ensures refl
+    (last_seal ls) s.unlisted c.unlisted_over.result c.in-Some.place _ c.unlisted_over.ensures c.in-Some.is c.find_listed-listed.ensures
+    refl
     c.in-Some-look_at.ensures.value refl
 
 pub returns-in-None-look_at-clause-value : goal.returns-in-None-look_at-clause-value
@@ -17,7 +18,8 @@ returns-in-None-look_at-clause-value g c =
     let s = c.args.table.now in
     let ls = map layer_of s.links.items in
     passed_unlisted (g.R.Runtime.view c.args.base.now) ls c.args.name.now c.find_listed-listed.result
-    (last_seal ls) s.unlisted c.unlisted_over.result c.in-Some.place _ c.unlisted_over.ensures c.in-Some.is c.find_listed-listed.ensures refl
+    (last_seal ls) s.unlisted c.unlisted_over.result c.in-Some.place _ c.unlisted_over.ensures c.in-Some.is c.find_listed-listed.ensures
+    refl
     c.in-None-look_at.ensures.value c.look_listed.ensures.value
 
 pub returns-in-None-clause-value : goal.returns-in-None-clause-value

@@ -10,7 +10,8 @@ use Rattle.liquid_parser.proofs.cursor.element.Exp.parse.Goals as goal
 pub returns : goal.returns
 returns g c source chain is =
     ap (λ r. ok_then r (λ made. Ok (chain_node made))) (rw is.source_is at c.in_ok-chain.ensures chain.following chain is.match is.fine)
-    ∙ ap (λ n. Ok n) (sym (chain_shape g.F.Filter.Meant.shape g.T.Node.Meant.shape g.B.Node.Meant.shape c.left_of-2.result c.in_ok-chain.chain))
+    ∙ ap (λ n. Ok n) (sym (chain_shape g.F.Filter.Meant.shape g.T.Node.Meant.shape g.B.Node.Meant.shape c.left_of-2.result
+    c.in_ok-chain.chain))
 
 pub returns-in_err-chain : goal.returns-in_err-chain
 returns-in_err-chain g c source chain is =
