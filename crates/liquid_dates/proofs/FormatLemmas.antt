@@ -124,27 +124,6 @@ directive_printed dt cs conversion rest text old new h front is = by_cases _ (di
         (sym h.1, is ∙ ap (λ t. old ++ t) (conversion_prints dt item conversion (37 ∷ text) h.0 e))
     by_cases (Err e) d h = absurd h
 
-pub read_utf8 : (cs : List ℕ) (conversion : Conversion) (rest : Bor (List ℕ)) → IsReadAs (Ok (conversion, rest)) (directive_at cs)
-    → IsUtf8 rest.now
-read_utf8 cs conversion rest h = by_cases (directive_at cs) h
-  where
-    by_cases : (r : ItemRead) → IsReadAs (Ok (conversion, rest)) r → IsUtf8 rest.now
-    by_cases (Ok (item, more)) h = h.2
-    by_cases (Err e) h = absurd h
-
-on_refusal : (e : DateFormatError) (P : Type 0) → P → OnRefusal e P
-on_refusal Memory P h = tt
-on_refusal NoFormatSpecifier P h = h
-on_refusal NoFormatSpecifierAfterModifier P h = h
-on_refusal InvalidWidth P h = h
-
-pub read_refused : (cs : List ℕ) (e : DateFormatError) → IsReadAs (Err e) (directive_at cs) → OnRefusal e (directive_at cs ≡ Err e)
-read_refused cs e h = by_cases (directive_at cs) h
-  where
-    by_cases : (r : ItemRead) → IsReadAs (Err e) r → OnRefusal e (r ≡ Err e)
-    by_cases (Ok q) h = absurd h
-    by_cases (Err r) h = on_refusal e (Err r ≡ Err e) (ap Err (sym h))
-
 -- the print of one more item
 pub print_more : (dt : DateTime) (items : List Item) (i : Item) → print dt (items ++ (i ∷ [])) ≡ print dt items ++ item_print dt i
 unfolding print

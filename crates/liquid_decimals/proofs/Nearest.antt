@@ -44,12 +44,6 @@ nearest_below n d q r e low =
     let parts : 2 * n + d ≡ q * (2 * d) + (2 * r + d) = omega (arith, doubled_left q d) in
     ap (λ x. x / (2 * d)) parts ∙ div-mul-add q (2 * d) (2 * r + d) (omega arith)
 
-pub nearest_above : (n d q r : ℕ) → n ≡ q * d + r → r < d → d ≤ 2 * r → nearest n d ≡ q + 1
-nearest_above n d q r e low high =
-    let more : (q + 1) * (2 * d) ≡ 2 * (q * d) + 2 * d = doubled_left (q + 1) d ∙ omega arith in
-    let parts : 2 * n + d ≡ (q + 1) * (2 * d) + (2 * r - d) = omega arith in
-    ap (λ x. x / (2 * d)) parts ∙ div-mul-add (q + 1) (2 * d) (2 * r - d) (omega arith)
-
 -- one more digit of a long division
 pub next_digit : (n d q r : ℕ) → 0 < d → q * d + r ≡ n → (q * 10 + r * 10 / d) * d + r * 10 % d ≡ n * 10
 next_digit n d q r h e =

@@ -372,26 +372,11 @@ pub turn_to_close : (f : Option Fault) (d : ℕ) (s : List ℕ) → 0 < d → No
 turn_to_close f zero s h none e = absurd (omega arith)
 turn_to_close f (suc d) s h none e = ap (adds f) (resume_close d s (left_none (named s) none) (left_none (open_bracket s) e))
 
-pub turn_closed : (f : Option Fault) (d : ℕ) (s rest : List ℕ) → 0 < d → Some rest ≡ option_map (λ p. p.1) (close_bracket s)
-    → adds f (closing (resume (pred d)) s) ≡ adds f (resume (d - 1) rest)
-turn_closed f zero s rest h e = absurd (omega arith)
-turn_closed f (suc d) s rest h e =
-    let x = left_some (close_bracket s) rest e in
-    let fewer : d ≡ suc d - 1 = omega arith in
-    ap (adds f) (closing_found (resume d) s x.0 x.1) ∙ ap₂ (λ n t. adds f (resume n t)) fewer x.2
-
-pub turn_unclosed : (f : Option Fault) (d : ℕ) (s : List ℕ) → None ≡ option_map (λ p. p.1) (close_bracket s)
-    → adds f (closing (resume (pred d)) s) ≡ None
-turn_unclosed f d s e = ap (adds f) (closing_none (resume (pred d)) s (left_none (close_bracket s) e))
-
 -- where the matcher begins and where it ends
 pub bracket_opens : (s rest : List ℕ) → Some rest ≡ option_map (λ p. p.1) (open_bracket s)
     → scan (index_fault 0) (bracket_index s) ≡ adds None (starts 1 rest)
 bracket_opens s rest e = let x = left_some (open_bracket s) rest e in scan_open s x.0 x.1 ∙ ap (starts 1) x.2
     ∙ sym (adds_none (starts 1 rest))
-
-pub no_bracket_opens : (s : List ℕ) → None ≡ option_map (λ p. p.1) (open_bracket s) → scan (index_fault 0) (bracket_index s) ≡ None
-no_bracket_opens s e = scan_none s (left_none (open_bracket s) e)
 
 pub all_closed : (f : Option Fault) (d : ℕ) (s : List ℕ) → d ≡ 0 → adds f (resume d s) ≡ Some (f, s)
 all_closed f d s e =

@@ -121,11 +121,6 @@ dashed_white b s e =
     let one_kind = λ (kind : ℕ). dashed_after kind (b ∷ s) ∙ ap (marked kind) (after_more b s e) ∙ sym (dashed_after kind s) in
     ap₂ (λ x y. x || y) (one_kind 123) (one_kind 37)
 
-dashed_other : (b : ℕ) (s : List ℕ) → is_white b ≡ false → dashed (b ∷ s) ≡ marked 123 (b ∷ s) || marked 37 (b ∷ s)
-dashed_other b s e =
-    let one_kind = λ (kind : ℕ). dashed_after kind (b ∷ s) ∙ ap (marked kind) (after_none b s e) in
-    ap₂ (λ x y. x || y) (one_kind 123) (one_kind 37)
-
 opens_parts : (s : List ℕ) → opens s ≡ (is_some (dashed_opener 123 s) || is_some (braces 123 s)) ||
     (is_some (dashed_opener 37 s) || is_some (braces 37 s))
 unfolding any_opener opener
@@ -274,9 +269,6 @@ pub record Passed (s : List ℕ) (white at : ℕ) : Type 0 where
   pub order : white ≤ at
   pub closed : (k : ℕ) → k < white → opens (drop k s) ≡ false
   pub same : (k : ℕ) → white ≤ k → k < at → opens (drop k s) ≡ dashed (drop at s)
-
-pub passed_none : (s : List ℕ) → Passed s 0 0
-passed_none s = record { order = omega arith; closed = λ k h. absurd (omega arith); same = λ k l h. absurd (omega arith) }
 
 pub passed_white : (s : List ℕ) (white at : ℕ) → at < length s → Passed s white at → is_white (get_or s at 0) ≡ true
     → Passed s white (at + 1)

@@ -49,23 +49,7 @@ use Rattle.liquid_grammar.specs.meaning.Literals.{
   Number,
   LiteralRule,
 }
-use Rattle.liquid_grammar.specs.meaning.Values.{
-  Value,
-  Index,
-  named_index,
-  gather,
-  placed_literal,
-  placed_variable,
-  placed_bracket,
-  Bracketed,
-  IndexOver,
-  VariableOver,
-  ValueOver,
-  Nested,
-  ValueRule,
-  IndexRule,
-  VariableRule,
-}
+use Rattle.liquid_grammar.specs.meaning.Values.{Value, Index, named_index, gather, placed_literal, placed_variable, placed_bracket, Bracketed, IndexOver, VariableOver, ValueOver, Nested, ValueRule}
 use Rattle.liquid_grammar.specs.meaning.Tokens.{
   positional,
   keyword,
@@ -247,12 +231,6 @@ spans-nested (suc n) = record { of = λ s rest v m u. (spans-value_over (spans-n
 
 pub spans-value : Spans ValueRule value_spans
 spans-value = record { of = λ s rest v m u. (spans-nested (suc (length s))).of s rest v m u }
-
-pub spans-index : Spans IndexRule index_spans
-spans-index = spans-index_over spans-value
-
-pub spans-variable : Spans VariableRule value_spans
-spans-variable = spans-variable_over spans-value
 
 pub spans-argument : Spans ArgumentRule argument_spans
 spans-argument =

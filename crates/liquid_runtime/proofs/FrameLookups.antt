@@ -14,19 +14,11 @@ use Rattle.liquid_runtime.proofs.MapLaws.{empty-over}
 use Rattle.liquid_runtime.specs.meaning.View.{View}
 use Rattle.liquid_runtime.specs.meaning.Roots.{NamesOf, NamesOver}
 use Rattle.liquid_runtime.specs.meaning.NamesSeen.{lookup, names_seen}
-use Rattle.liquid_runtime.specs.meaning.Frames.{begin_stack, begin_sandboxed}
+use Rattle.liquid_runtime.specs.meaning.Frames.{begin_stack}
 use Rattle.liquid_runtime.specs.steps.FrameViews.{core_with, indexed_view, assigned_view, sandboxed_with}
 use Rattle.liquid_runtime.specs.declared.leniency.Leniency.{Leniency}
 use Rattle.liquid_runtime.specs.declared.registers.Registers.{Registers}
-use Rattle.liquid_runtime.proofs.FrameLaws.{
-  lookup_stack,
-  lookup_global,
-  lookup_sandboxed,
-  lookup_isolated,
-  seal_stack,
-  seal_global,
-  seal_sandboxed,
-}
+use Rattle.liquid_runtime.proofs.FrameLaws.{lookup_stack, lookup_global, lookup_sandboxed, seal_stack, seal_global, seal_sandboxed}
 use Rattle.liquid_runtime.proofs.Objects.{changed_objects}
 use Rattle.std.proofs.Math.Bool.{or-false}
 
@@ -113,13 +105,6 @@ module _ {Reg : Type 0} where
   roots_sandboxed r names name v below set is none q =
       is q ∙ ap (λ ks. is_some (get names q) || list_any (at_name q) ks) none ∙ or-false (is_some (get names q))
       ∙ ap is_some (sym (lookup_sandboxed r.value names name v q))
-
-  pub roots_isolated : (assigned : Names) (fresh : Reg) (names : Names) (name : Option (List ℕ)) (v : View Reg)
-      (below set : BTreeSet (String Global)) → NamesOver assigned below set → NamesOf names below
-      → NamesOf (names_seen (assigned_view assigned (begin_sandboxed fresh names name v))) set
-  roots_isolated assigned fresh names name v below set is of =
-      names_either assigned names (names_seen (assigned_view assigned (begin_sandboxed fresh names name v))) below set
-      (lookup_isolated assigned fresh names name v) is of
 
 pub ruleset frame_lookups = (
   seal_own,

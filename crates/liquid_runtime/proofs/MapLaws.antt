@@ -54,24 +54,8 @@ module _ {X : Type 0} where
   option_or-option_or None b c = refl
   option_or-option_or (Some x) b c = refl
 
-  option_or-None : (a : Option X) → option_or a None ≡ a
-  option_or-None None = refl
-  option_or-None (Some x) = refl
-
-  option_or-same : (a : Option X) → option_or a a ≡ a
-  option_or-same None = refl
-  option_or-same (Some x) = refl
-
   pub empty-over : (m : NameMap X) → over empty m ≡ m
   empty-over m = same_names _ m (λ q. get-over empty m q ∙ ap (λ o. option_or o (get m q)) (get-empty (slice_cmp nat_cmp) q))
-
-  pub over-empty : (m : NameMap X) → over m empty ≡ m
-  over-empty m =
-      same_names _ m (λ q. get-over m empty q ∙ ap (option_or (get m q)) (get-empty (slice_cmp nat_cmp) q) ∙ option_or-None (get m q))
-
-  -- a map over itself is itself
-  pub over-same : (m : NameMap X) → over m m ≡ m
-  over-same m = same_names _ m (λ q. get-over m m q ∙ option_or-same (get m q))
 
   -- laying maps over one another doesn't depend on the grouping
   pub over-over : (a b c : NameMap X) → over (over a b) c ≡ over a (over b c)

@@ -1,7 +1,7 @@
 -- What the names of an object give, and how a change to the object changes them.
-use Rattle.std.proofs.Common.{◌≡◌, ℕ, Bool, true, false, cond, List, [], ◌∷◌, Option, Some, None, map, refl, ap, sym, ◌∙◌}
+use Rattle.std.proofs.Common.{◌≡◌, ℕ, Bool, true, false, cond, List, [], ◌∷◌, Option, Some, map, refl, ap, sym, ◌∙◌}
 use Rattle.std.specs.Prelude.{String, string_bytes}
-use Rattle.std.specs.Option.{option_or, option_map}
+use Rattle.std.specs.Option.{option_map}
 use Rattle.std.specs.Ordering.{nat_cmp, is_eq, eq_by_cmp}
 use Rattle.std.specs.Cmp.Lexicographic.{slice_cmp, nat_list_cmp_total}
 use Rattle.std.specs.BTreeMap.{BTreeMap, IsEmpty, get_by_text, Updates}
@@ -13,7 +13,6 @@ use Rattle.std.specs.Map.{lookup as lookup_entry}
 use Rattle.std.specs.FinMap.{get, insert, get-insert, empty, from_entries, get-from_entries}
 use Rattle.std.specs.FinMap.Entries.{find}
 use Rattle.std.specs.declared.alloc.Global.{Global}
-use Rattle.liquid_value.specs.meaning.Tree.{Tree}
 use Rattle.liquid_value.specs.meaning.View.{view}
 use Rattle.liquid_value.specs.declared.value.Value.{Value}
 use Rattle.liquid_runtime.specs.meaning.Maps.{names_of}
@@ -55,16 +54,6 @@ names_of-insert old new k x updates = same_names _ _ (λ q.
     ∙ ap (cond (bytes_eq (string_bytes k) q) (Some (view x))) (sym (get-names_of old q))
     ∙ ap (λ b. cond b (Some (view x)) (get (names_of old) q)) same
     ∙ sym (get-insert nat_list_cmp_total (names_of old) (string_bytes k) (view x) q))
-
--- a name that the object has is found there, whatever is below
-pub found_in_object : (object : BTreeMap (String Global) Value) (q : List ℕ) (x : Value) (below : Option Tree)
-    → Some x ≡ get_by_text object q → option_or (get (names_of object) q) below ≡ Some (view x)
-found_in_object object q x below is = ap (λ o. option_or o below) (get-names_of object q ∙ ap (option_map view) (sym is))
-
--- a name that the object does not have is looked up below
-pub found_below_object : (object : BTreeMap (String Global) Value) (q : List ℕ) (below : Option Tree) → None ≡ get_by_text object q
-    → option_or (get (names_of object) q) below ≡ below
-found_below_object object q below is = ap (λ o. option_or o below) (get-names_of object q ∙ ap (option_map view) (sym is))
 
 -- how the names of an object change with it
 pub ruleset changed_objects = (names_of-empty, names_of-insert)

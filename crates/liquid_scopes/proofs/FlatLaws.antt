@@ -137,13 +137,6 @@ put_listed false true true false h = refl
 put_listed false true false w h = refl
 put_listed false false e w h = refl
 
-put_unlisted : (A b e w : Bool) → (e ≡ true → w ≡ true) → (A && not w) ≡ ((A || (b && e)) && not w)
-put_unlisted true b e w h = refl
-put_unlisted false true true true h = refl
-put_unlisted false true true false h = let k = h refl in absurd (cc)
-put_unlisted false true false w h = refl
-put_unlisted false false e w h = refl
-
 at_that : (U : Option ℕ) (n j : ℕ) → is_at U n ≡ true → is_at U j ≡ nat_eq j n
 at_that None n j h = absurd (cc)
 at_that (Some u) n j h = let k : u ≡ n = grind (arith, nat_tests) in ap (nat_eq j) k
@@ -313,14 +306,6 @@ module _ {Reg : Type 0} where
       → S ≡ listed_at ls U q j → T ≡ (S || (bytes_eq k q && nat_eq j i)) → T ≡ listed_at ms U q j
   fits_put ls ms U i k q j S T apart more fit noted = noted ∙ ap (λ b. b || (bytes_eq k q && nat_eq j i)) fit
       ∙ put_listed (has_at ls q j) (bytes_eq k q) (nat_eq j i) (is_at U j) (same_at U i j false apart)
-      ∙ ap (λ b. b && not (is_at U j)) (sym more)
-
-  -- the same in the unlisted one
-  pub fits_put_unlisted : (ls ms : List (Layer Reg)) (U : Option ℕ) (i : ℕ) (k q : List ℕ) (j : ℕ) (S : Bool) → is_at U i ≡ true
-      → has_at ms q j ≡ (has_at ls q j || (bytes_eq k q && nat_eq j i))
-      → S ≡ listed_at ls U q j → S ≡ listed_at ms U q j
-  fits_put_unlisted ls ms U i k q j S here more fit =
-      fit ∙ put_unlisted (has_at ls q j) (bytes_eq k q) (nat_eq j i) (is_at U j) (same_at U i j true here)
       ∙ ap (λ b. b && not (is_at U j)) (sym more)
 
   -- the place that was noted for a name that was not given a value: it is removed unless the frame had the name before

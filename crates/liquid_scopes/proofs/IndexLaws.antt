@@ -3,7 +3,6 @@ use Rattle.std.proofs.Common.{◌≡◌, ℕ, List, [], ◌∷◌, Option, None,
 use Rattle.std.specs.Prelude.{is_some, ◌&&◌, ◌||◌, not, string_bytes, bytes_eq}
 use Rattle.std.specs.Option.{option_or}
 use Rattle.std.specs.BTreeMap.{get_by_text}
-use Rattle.std.specs.Map.{lookup as lookup_entry}
 use Rattle.std.specs.Ordering.{nat_cmp, is_eq}
 use Rattle.std.specs.Cmp.Lexicographic.{slice_cmp}
 use Rattle.std.specs.Ordering.{eq_by_cmp}
@@ -29,9 +28,6 @@ pub among_changed : (b : Bool) (new : Frames) (old : Option Frames) (j : ℕ)
     → is_among (cond b (Some new) old) j ≡ cond b (is_place new.last new.earlier j) (is_among old j)
 among_changed true new old j = refl
 among_changed false new old j = refl
-
-pub nothing_stands : (m : Places) (q : List ℕ) (j : ℕ) → m.entries ≡ [] → stands m q j ≡ false
-nothing_stands m q j e = ap (λ es. is_among (lookup_entry (λ k. is_eq (slice_cmp nat_cmp q (string_bytes k))) es) j) e
 
 is_equal : (o : Ordering) → is_eq o ≡ true → o ≡ Equal
 is_equal Less e = absurd (cc)
@@ -149,10 +145,6 @@ undone true false false h z = h
 undone false true true h z = absurd (cc)
 undone false true false h z = h
 undone false false X h z = refl
-
-pub nothing_found : {A : Type 0} (o : Option A) → is_some o ≡ false → None ≡ o
-nothing_found None e = refl
-nothing_found (Some x) e = absurd (cc)
 
 and_twice : (b e : Bool) → ((b && e) && e) ≡ (b && e)
 and_twice true true = refl

@@ -110,9 +110,6 @@ module _ {V : Type 0} where
       map_get f xs i d ∙ ap (λ ys. get_or ys i (f d)) p.is ∙ ap (λ k. get_or (p.before ++ p.layer ∷ p.after) k (f d)) p.place
       ∙ seam p.before p.after p.layer (f d)
 
-  pub within_here : (ls : List (Layer V)) (i : ℕ) → GlobalAt ls i → i < length ls
-  within_here ls i p = rw (ap length p.is, p.place) (below_seam p.before p.after p.layer)
-
 module _ {Reg : Type 0} where
   ending_begun : (fresh : Reg) (f : FrameShape) (v : View Reg) → ending (restored_by f v) (beginning fresh f v) ≡ v
   ending_begun fresh no_frame v = refl

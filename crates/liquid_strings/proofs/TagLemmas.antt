@@ -1,37 +1,5 @@
 -- Parts of a string that are left out.
-use Rattle.std.proofs.Common.{
-  ◌≡◌,
-  ℕ,
-  suc,
-  ◌+◌,
-  ◌-◌,
-  ◌<◌,
-  ◌≤◌,
-  true,
-  false,
-  cond,
-  List,
-  [],
-  ◌∷◌,
-  ◌++◌,
-  Option,
-  None,
-  Some,
-  length,
-  take,
-  drop,
-  get_or,
-  leb,
-  refl,
-  sym,
-  ap,
-  ◌∙◌,
-  arith,
-  append_assoc,
-  drop-drop,
-  length-drop,
-  ⊎_elim,
-}
+use Rattle.std.proofs.Common.{◌≡◌, ℕ, suc, ◌+◌, ◌-◌, ◌<◌, ◌≤◌, true, cond, List, [], ◌∷◌, ◌++◌, Option, None, Some, length, take, drop, get_or, leb, refl, sym, ap, ◌∙◌, arith, append_assoc, drop-drop, length-drop, ⊎_elim}
 use Rattle.std.specs.List.{slice_range, starts_with}
 use Rattle.std.specs.Option.{option_map}
 use Rattle.std.specs.Prelude.{nat_eq}
@@ -73,10 +41,6 @@ module _ (text opener closer : List ℕ) (at : ℕ) (within : at ≤ length text
   pub opens_at : length opener ≤ length (drop at text) → starts_with nat_eq (drop at text) opener ≡ true → OccursAt text opener at
   opens_at short begins = OccursAt-from_part text opener at (omega (arith, length-drop at text))
       (sym ((bytes_eq-Decides opener (take (length opener) (drop at text))).0 begins))
-
-  -- what does not begin with the opener begins no part
-  pub no_opener : starts_with nat_eq (drop at text) opener ≡ false → None ≡ option_map (λ n. at + n) (part_len opener closer (drop at text))
-  no_opener fails = ap (option_map (λ n. at + n)) (sym (cond-false _ _ _ fails))
 
   -- what does ends where a search for the closer finds it
   searched : starts_with nat_eq (drop at text) opener ≡ true → (r : Option ℕ) → FindsNeedle (drop (at + length opener) text) closer 0 r

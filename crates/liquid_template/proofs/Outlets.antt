@@ -33,7 +33,7 @@ use Rattle.liquid_error.specs.declared.error.Error.{Error}
 use Rattle.liquid_error.specs.meaning.Refusal.{Refusal}
 use Rattle.liquid_error.specs.meaning.Told.{told}
 use Rattle.liquid_template.specs.meaning.Sunk.{Sunk}
-use Rattle.liquid_template.specs.meaning.Output.{Output, Passed, Gated, IsPast, asked, Passes, Refuses, gated, ungated}
+use Rattle.liquid_template.specs.meaning.Output.{Output, Passed, Gated, IsPast, asked, Passes, Refuses, gated}
 use Rattle.liquid_template.specs.meaning.Pours.{Pours}
 use Rattle.liquid_template.specs.meaning.Outcome.{failed_to_render, was_stopped}
 use Rattle.liquid_template.specs.steps.PieceOut.{PieceLost, PieceFails, PieceRefused, PieceTaken, PieceOut}
@@ -132,9 +132,6 @@ through : (piece : List ℕ) (x y : Output) (answer : Answer) → Passes x.bytes
     → PiecePut piece x.sunk y.sunk answer → PieceOut piece x y answer
 through piece x y answer q t h = record { taken = put_taken piece x y answer q h.taken; turns = t; pours = h.pours }
 
-pub sink_put : (piece : List ℕ) (s r : Sunk) (answer : Answer) → PiecePut piece s r answer → PieceOut piece (ungated s) (ungated r) answer
-sink_put piece s r answer h = through piece (ungated s) (ungated r) answer refl refl h
-
 pub gated_put : (piece : List ℕ) (s r : Sunk) (g h : Gated) (answer : Answer) (passed : Bool) → passed ≡ true
     → h.bytes ≡ asked passed (length piece) g.bytes → h.turns ≡ g.turns → PiecePut piece s r answer
     → PieceOut piece (gated s g) (gated r h) answer
@@ -194,6 +191,3 @@ pub text_written : (o : Output) (open_text : Option (List ℕ)) (text piece new 
 text_written o open_text text piece new answer h t i e =
     subst (λ x. PieceOut piece (target_of o open_text) (target_of o (Some new)) x) (sym (answer_ok answer h))
     (text_put o open_text text piece new tt t i e)
-
-pub empty_piece : (piece : List ℕ) (o : Output) (answer : Result (Unit {0}) Error) → IsOk answer → piece ≡ [] → PieceOut piece o o answer
-empty_piece piece o answer h e = subst (λ x. PieceOut piece o o x) (sym (answer_ok answer h)) (nothing_put piece o tt e)

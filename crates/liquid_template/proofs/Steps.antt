@@ -198,17 +198,6 @@ module _ {Reg F T P B Q : Type 0} (s : Setting Reg F T P B Q) (partials : List �
   chain_out c t v b a answer e h =
       subst (λ r. RendersWithin (writes_value r v) v b a v answer) (sym e) (renders_put (render t) v b a answer h)
 
-  pub chain_refused : (c : ChainShape F) (v : View Reg) (b : Output) (e : Error) → IfSome (told e) (λ r. chain_value s.filters c v ≡ Err r)
-      → RendersWithin (run_node s partials (chain_node c) v) v b b v (Err e)
-  unfolding run_node
-  chain_refused c v b e h =
-      renders_refused (writes_value (chain_value s.filters c v) v) v v b e
-      (if_both {B = Unit {0}} (told e) (λ r x y. ap (λ o. writes_value o v) x) h (if_any (told e))) refl
-    where
-      if_any : (t : Option Refusal) → OnSome t (Unit {0})
-      if_any None = tt
-      if_any (Some r) = tt
-
   -- a list: a refusal, an interrupt and the next node
   pub list_fails : (n : NodeShape F T B) (ns : Nodes F T B) (v w : View Reg) (b a : Output) (e : Error)
       → RendersWithin (run_node s partials n v) v b a w (Err e) → RendersWithin (run_nodes s partials (node n ns) v) v b a w (Err e)

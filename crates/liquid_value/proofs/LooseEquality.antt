@@ -129,10 +129,6 @@ mutual
 pub value_eq_symm : (l r : Tree) → without_truthy l ≡ true → without_truthy r ≡ true → value_eq l r ≡ value_eq r l
 value_eq_symm l r h k = symmetric true l r h k
 
-not_not : (b : Bool) → not (not b) ≡ b
-not_not true = refl
-not_not false = refl
-
 leaf_turned : (onward : Bool) (l r : Tree) → leaf_facing (not onward) l r ≡ leaf_facing onward r l
 leaf_turned true l r = refl
 leaf_turned false l r = refl

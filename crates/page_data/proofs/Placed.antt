@@ -1,10 +1,9 @@
 -- A fault with a place says that a text is not of its format.
 use Rattle.std.proofs.Common.{◌≡◌, ℕ, List, None}
 use Rattle.liquid_decimal_json.specs.meaning.Given.{object_read}
-use Rattle.toml.specs.Parse.{parse_document}
 use Rattle.page_data.specs.declared.fault.DataFault.{DataFault}
 use Rattle.page_data.specs.declared.fault.DataFault.TheVariants as fault
-use Rattle.page_data.specs.meaning.Document.{JsonRefused, TableRefused}
+use Rattle.page_data.specs.meaning.Document.{JsonRefused}
 use Rattle.page_data.specs.meaning.Sheet.{IsPlaced}
 
 pub no_json : (source : List ℕ) (e : DataFault) (M : Type 0) → IsPlaced e → (M → e ≡ fault.Memory)
@@ -13,10 +12,3 @@ no_json source fault.Memory M placed full none = tt
 no_json source (fault.At line column cause) M placed full none =
     none (λ m. let same : fault.At line column cause ≡ fault.Memory = full m in cc)
 no_json source (fault.Value e) M placed full none = absurd placed
-
-pub no_table : (source : List ℕ) (e : DataFault) (M : Type 0) → IsPlaced e → (M → e ≡ fault.Memory)
-    → ((M → ⊥) → parse_document source ≡ None) → TableRefused source e
-no_table source fault.Memory M placed full none = tt
-no_table source (fault.At line column cause) M placed full none =
-    none (λ m. let same : fault.At line column cause ≡ fault.Memory = full m in cc)
-no_table source (fault.Value e) M placed full none = absurd placed

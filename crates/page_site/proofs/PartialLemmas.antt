@@ -1,45 +1,16 @@
 -- The partials of a folder, one after another.
-use Rattle.std.proofs.Common.{
-  ◌≡◌,
-  ◌∙◌,
-  ℕ,
-  List,
-  [],
-  ◌∷◌,
-  Bool,
-  true,
-  false,
-  cond,
-  Option,
-  None,
-  Some,
-  Result,
-  Ok,
-  Err,
-  IfOk,
-  String,
-  Global,
-  BTreeMap,
-  map,
-  string_bytes,
-  refl,
-  sym,
-  ap,
-  subst,
-}
+use Rattle.std.proofs.Common.{◌≡◌, ◌∙◌, ℕ, List, [], ◌∷◌, Bool, true, false, cond, Option, None, Some, Result, Ok, Err, IfOk, String, Global, BTreeMap, string_bytes, refl, sym, ap}
 use Rattle.std.specs.Prelude.{option_map, if◌then◌else◌}
 use Rattle.std.specs.BTreeMap.{Updates, get_by_text}
 use Rattle.std.specs.Option.{option_or}
 use Rattle.std.specs.Str.{bytes_eq}
 use Rattle.std.specs.String.{string_cmp}
 use Rattle.std.proofs.lemmas.Map.Text.{btree_map_updates_text}
-use Rattle.liquid_files.specs.declared.folder.Unread.{Unread}
 use Rattle.liquid_files.specs.meaning.Files.{Reads}
 use Rattle.page_site.specs.declared.fault.SiteFault.{SiteFault}
 use Rattle.page_site.specs.meaning.Faults.{partial_text}
 use Rattle.page_site.specs.declared.partials.PartialNames.{PartialNames}
-use Rattle.page_site.specs.meaning.Items.{file_in}
-use Rattle.page_site.specs.meaning.Partials.{partial_in, partial_name}
+use Rattle.page_site.specs.meaning.Partials.{partial_in}
 
 choose : (b : Bool) (x : String Global) (rest : Option (String Global))
     → option_map string_bytes (cond b (Some x) rest) ≡ cond b (Some (string_bytes x)) (option_map string_bytes rest)
@@ -76,20 +47,3 @@ or_none (Some x) = refl
 pub none_read : (empty : BTreeMap (String Global) (String Global)) (o : Option (List ℕ)) (name : List ℕ)
     → partial_text empty name ≡ None → option_or o (partial_text empty name) ≡ o
 none_read empty o name is = ap (option_or o) is ∙ or_none o
-
-or_chosen : (rest : Option (List ℕ)) (b : Bool) (text before : Option (List ℕ)) (t : List ℕ) → text ≡ Some t
-    → option_or rest (if b then Some t else before) ≡ option_or (option_or rest (if b then text else None)) before
-or_chosen None true text before t is = ap (λ x. option_or x before) (sym is)
-or_chosen None false text before t is = refl
-or_chosen (Some r) b text before t is = refl
-
--- one more partial is read
-pub one_read : (called : PartialNames) (rest : Option (List ℕ)) (name other : List ℕ) (files : List ℕ → Option (List ℕ)) (folder : List ℕ)
-    (old new : BTreeMap (String Global) (String Global)) (text : List ℕ) → files (file_in folder other) ≡ Some text
-    → partial_text new name ≡ (if bytes_eq (partial_name called other) name then Some text else partial_text old name)
-    → option_or rest (partial_text new name)
-    ≡ option_or (option_or rest (if bytes_eq (partial_name called other) name then files (file_in folder other) else None))
-    (partial_text old name)
-one_read called rest name other files folder old new text is put =
-    ap (option_or rest) put ∙ or_chosen rest (bytes_eq (partial_name called other) name) (files (file_in folder other))
-    (partial_text old name) text is

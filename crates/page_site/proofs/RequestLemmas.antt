@@ -1,25 +1,5 @@
 -- Requests, one after another.
-use Rattle.std.proofs.Common.{
-  ◌≡◌,
-  ◌∙◌,
-  ℕ,
-  List,
-  [],
-  ◌∷◌,
-  ◌++◌,
-  Bool,
-  true,
-  false,
-  Option,
-  None,
-  Some,
-  refl,
-  sym,
-  ap,
-  append_assoc,
-  append-nil,
-  true≢false,
-}
+use Rattle.std.proofs.Common.{◌≡◌, ◌∙◌, List, [], ◌∷◌, ◌++◌, Bool, true, false, None, Some, refl, sym, ap, append_assoc, append-nil, true≢false}
 use Rattle.liquid_files.specs.meaning.Files.{Request, Requests, also}
 use Rattle.page_site.specs.meaning.Requested.{Follows}
 
@@ -39,10 +19,6 @@ pub follows_nothing : (all : List Request) (before after : Requests) (done : Boo
     → Follows all before after done
 follows_nothing all before after done failed same =
     ([], all, same ∙ also_nothing before, refl, λ yes. absurd (true≢false (sym yes ∙ failed)))
-
--- there was nothing to request
-pub follows_none : (before after : Requests) (done : Bool) → after ≡ before → Follows [] before after done
-follows_none before after done same = ([], [], same ∙ also_nothing before, refl, λ _. refl)
 
 -- one request was made, whether it failed or not
 pub follows_one : (request : Request) (before after : Requests) (done : Bool) → after ≡ also before (request ∷ [])
@@ -82,9 +58,6 @@ follows_stop first second before after any done failed (made, rest, is, all, who
 abbrev pub Reaching : List Request → List Request → Requests → Requests → Type 0
 Reaching all rest before now = (made : List Request) × (now ≡ also before made) × (made ++ rest ≡ all)
 
-pub reaching_start : (all : List Request) (before : Requests) → Reaching all all before before
-reaching_start all before = ([], also_nothing before, refl)
-
 pub reaching_next : (all : List Request) (request : Request) (rest : List Request) (before now after : Requests)
     → Reaching all (request ∷ rest) before now → after ≡ also now (request ∷ []) → Reaching all rest before after
 reaching_next all request rest before now after (made, is, whole) next = (
@@ -96,6 +69,3 @@ reaching_next all request rest before now after (made, is, whole) next = (
 pub reaching_stop : (all rest : List Request) (before now : Requests) (done : Bool) → done ≡ false → Reaching all rest before now
     → Follows all before now done
 reaching_stop all rest before now done failed (made, is, whole) = (made, rest, is, whole, λ yes. absurd (true≢false (sym yes ∙ failed)))
-
-pub reaching_end : (all : List Request) (before now : Requests) (done : Bool) → Reaching all [] before now → Follows all before now done
-reaching_end all before now done (made, is, whole) = (made, [], is, whole, λ _. refl)
