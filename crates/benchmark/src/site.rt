@@ -122,9 +122,9 @@ fn once_parsed<F, T, B>(
     language: &Language<F, T, B>,
 ) -> Result<u128, Problem>
 where
-    F: ParseFilter + Drop,
-    T: ParseTag<F> + Drop,
-    B: ParseBlock<F> + Drop,
+    F: ParseFilter,
+    T: ParseTag<F>,
+    B: ParseBlock<F>,
 {
     let start = Instant::now(rt)?;
     let nodes = parse(rt.alloc(), text, language)?;

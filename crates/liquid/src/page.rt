@@ -175,9 +175,9 @@ fn perform<R, F, T, B>(
 ) -> u8
 where
     R: Rewrite,
-    F: ParseFilter + Drop,
-    T: ParseTag<F> + Drop,
-    B: ParseBlock<F> + Drop,
+    F: ParseFilter,
+    T: ParseTag<F>,
+    B: ParseBlock<F>,
     T::Node: Discreet<Marks>,
     B::Node: Discreet<Marks>,
 {
@@ -195,9 +195,9 @@ where
 fn check<R, F, T, B>(rt: &HostRuntime, request: &Request<'_>, language: &Language<F, T, B>) -> u8
 where
     R: Rewrite,
-    F: ParseFilter + Drop,
-    T: ParseTag<F> + Drop,
-    B: ParseBlock<F> + Drop,
+    F: ParseFilter,
+    T: ParseTag<F>,
+    B: ParseBlock<F>,
 {
     let errors = rt.stderr();
     let mut err = io::writer(&errors);
@@ -228,9 +228,9 @@ pub(crate) fn make_pages<R, F, T, B>(
 ) -> u8
 where
     R: Rewrite,
-    F: ParseFilter + Drop,
-    T: ParseTag<F> + Drop,
-    B: ParseBlock<F> + Drop,
+    F: ParseFilter,
+    T: ParseTag<F>,
+    B: ParseBlock<F>,
     T::Node: Discreet<Marks>,
     B::Node: Discreet<Marks>,
 {
@@ -254,9 +254,9 @@ fn write_pages<R, F, T, B>(
 ) -> Outcome
 where
     R: Rewrite,
-    F: ParseFilter + Drop,
-    T: ParseTag<F> + Drop,
-    B: ParseBlock<F> + Drop,
+    F: ParseFilter,
+    T: ParseTag<F>,
+    B: ParseBlock<F>,
     T::Node: Discreet<Marks>,
     B::Node: Discreet<Marks>,
 {

@@ -32,9 +32,9 @@ pub(crate) fn watch<R, F, T, B>(
 ) -> u8
 where
     R: Rewrite,
-    F: ParseFilter + Drop,
-    T: ParseTag<F> + Drop,
-    B: ParseBlock<F> + Drop,
+    F: ParseFilter,
+    T: ParseTag<F>,
+    B: ParseBlock<F>,
     T::Node: Discreet<Marks>,
     B::Node: Discreet<Marks>,
 {
@@ -65,9 +65,9 @@ fn remake<R, F, T, B>(
 ) -> u8
 where
     R: Rewrite,
-    F: ParseFilter + Drop,
-    T: ParseTag<F> + Drop,
-    B: ParseBlock<F> + Drop,
+    F: ParseFilter,
+    T: ParseTag<F>,
+    B: ParseBlock<F>,
     T::Node: Discreet<Marks>,
     B::Node: Discreet<Marks>,
 {

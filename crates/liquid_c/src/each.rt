@@ -98,9 +98,9 @@ fn render_each_in<V, F, T, B>(
 ) -> usize
 where
     V: Fresh,
-    F: ParseFilter + Drop,
-    T: ParseTag<F> + Drop,
-    B: ParseBlock<F> + Drop,
+    F: ParseFilter,
+    T: ParseTag<F>,
+    B: ParseBlock<F>,
     T::Node: Discreet<V>,
     B::Node: Discreet<V>,
     ensures { TurnsOver (LeavesOf (AskedComesTo

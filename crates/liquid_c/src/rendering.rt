@@ -123,9 +123,9 @@ fn render_in<V, F, T, B>(
 ) -> Outcome
 where
     V: Fresh,
-    F: ParseFilter + Drop,
-    T: ParseTag<F> + Drop,
-    B: ParseBlock<F> + Drop,
+    F: ParseFilter,
+    T: ParseTag<F>,
+    B: ParseBlock<F>,
     T::Node: Discreet<V>,
     B::Node: Discreet<V>,
     ensures { (shown : Shown) → AskedComesTo

@@ -27,9 +27,9 @@ pub(crate) trait RenderOver<V> {
 impl<V, F, T, B> RenderOver<V> for PreparedPage<F, T, B>
 where
     V: Fresh,
-    F: ParseFilter + Drop,
-    T: ParseTag<F> + Drop,
-    B: ParseBlock<F> + Drop,
+    F: ParseFilter,
+    T: ParseTag<F>,
+    B: ParseBlock<F>,
     T::Node: Discreet<V>,
     B::Node: Discreet<V>,
 {

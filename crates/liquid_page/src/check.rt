@@ -52,9 +52,9 @@ pub fn check_pages<R, F, T, B, X, D, E>(
 ) -> u8
 where
     R: Rewrite,
-    F: ParseFilter + Drop,
-    T: ParseTag<F> + Drop,
-    B: ParseBlock<F> + Drop,
+    F: ParseFilter,
+    T: ParseTag<F>,
+    B: ParseBlock<F>,
     X: Explain,
     D: Folder,
     E: Write,
@@ -83,9 +83,9 @@ fn check_given<R, F, T, B, X, D, E>(
 ) -> Result<u8, AllocError>
 where
     R: Rewrite,
-    F: ParseFilter + Drop,
-    T: ParseTag<F> + Drop,
-    B: ParseBlock<F> + Drop,
+    F: ParseFilter,
+    T: ParseTag<F>,
+    B: ParseBlock<F>,
     X: Explain,
     D: Folder,
     E: Write,
@@ -144,9 +144,9 @@ fn check_partials<R, F, T, B, X, E>(
 ) -> Result<(), AllocError>
 where
     R: Rewrite,
-    F: ParseFilter + Drop,
-    T: ParseTag<F> + Drop,
-    B: ParseBlock<F> + Drop,
+    F: ParseFilter,
+    T: ParseTag<F>,
+    B: ParseBlock<F>,
     X: Explain,
     E: Write,
 {
@@ -167,9 +167,9 @@ fn check_items<R, F, T, B, X, D, E>(
 ) -> Result<(), AllocError>
 where
     R: Rewrite,
-    F: ParseFilter + Drop,
-    T: ParseTag<F> + Drop,
-    B: ParseBlock<F> + Drop,
+    F: ParseFilter,
+    T: ParseTag<F>,
+    B: ParseBlock<F>,
     X: Explain,
     D: Folder,
     E: Write,
@@ -208,9 +208,9 @@ fn check_text<R, F, T, B, X, E>(
 ) -> Result<(), AllocError>
 where
     R: Rewrite,
-    F: ParseFilter + Drop,
-    T: ParseTag<F> + Drop,
-    B: ParseBlock<F> + Drop,
+    F: ParseFilter,
+    T: ParseTag<F>,
+    B: ParseBlock<F>,
     X: Explain,
     E: Write,
 {
@@ -244,9 +244,9 @@ fn read_source<R, F, T, B, X, E>(
 ) -> Result<(), AllocError>
 where
     R: Rewrite,
-    F: ParseFilter + Drop,
-    T: ParseTag<F> + Drop,
-    B: ParseBlock<F> + Drop,
+    F: ParseFilter,
+    T: ParseTag<F>,
+    B: ParseBlock<F>,
     X: Explain,
     E: Write,
 {

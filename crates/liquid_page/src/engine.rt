@@ -49,9 +49,9 @@ impl<V, R, F, T, B, X> Engine for PageEngine<V, R, F, T, B, X>
 where
     V: Fresh,
     R: Rewrite,
-    F: ParseFilter + Drop,
-    T: ParseTag<F> + Drop,
-    B: ParseBlock<F> + Drop,
+    F: ParseFilter,
+    T: ParseTag<F>,
+    B: ParseBlock<F>,
     T::Node: Discreet<V>,
     B::Node: Discreet<V>,
     X: Explain,

@@ -29,9 +29,9 @@ pub fn render_page<V, F, T, B>(
 ) -> Rendered
 where
     V: Fresh,
-    F: ParseFilter + Drop,
-    T: ParseTag<F> + Drop,
-    B: ParseBlock<F> + Drop,
+    F: ParseFilter,
+    T: ParseTag<F>,
+    B: ParseBlock<F>,
     T::Node: Discreet<V>,
     B::Node: Discreet<V>,
     ensures { (page : Page) → ComesTo

@@ -65,9 +65,9 @@ pub fn prepare_page<F, T, B>(
     partials: &[PartialBytes<'_>],
 ) -> PreparedPage<F, T, B>
 where
-    F: ParseFilter + Drop,
-    T: ParseTag<F> + Drop,
-    B: ParseBlock<F> + Drop,
+    F: ParseFilter,
+    T: ParseTag<F>,
+    B: ParseBlock<F>,
     ensures { IsPrepared (nodes_in F.Filter.shape T.Node.shape B.Node.shape)
         ⟦<Partials<F, T, B> as PartialStore<F::Filter, T::Node, B::Node>>⟧.finds
         (language_of F.makes T.gives B.block language.now.value) text.now (map bytes_of_partial partials.now) result.texts }
@@ -88,9 +88,9 @@ fn read_partials<F, T, B>(
     partials: &[PartialBytes<'_>],
 ) -> PageTexts<F, T, B>
 where
-    F: ParseFilter + Drop,
-    T: ParseTag<F> + Drop,
-    B: ParseBlock<F> + Drop,
+    F: ParseFilter,
+    T: ParseTag<F>,
+    B: ParseBlock<F>,
     ensures { IsReadOver (nodes_in F.Filter.shape T.Node.shape B.Node.shape)
         ⟦<Partials<F, T, B> as PartialStore<F::Filter, T::Node, B::Node>>⟧.finds
         (language_of F.makes T.gives B.block language.now.value) text.now (map bytes_of_partial partials.now) result }
@@ -110,9 +110,9 @@ fn read_text<F, T, B>(
     partials: InMemorySource,
 ) -> PageTexts<F, T, B>
 where
-    F: ParseFilter + Drop,
-    T: ParseTag<F> + Drop,
-    B: ParseBlock<F> + Drop,
+    F: ParseFilter,
+    T: ParseTag<F>,
+    B: ParseBlock<F>,
     ensures { IsReadAs (nodes_in F.Filter.shape T.Node.shape B.Node.shape)
         ⟦<Partials<F, T, B> as PartialStore<F::Filter, T::Node, B::Node>>⟧.finds
         (language_of F.makes T.gives B.block language.now.value) text.now partials result }
@@ -135,9 +135,9 @@ pub fn render_prepared<V, F, T, B>(
 ) -> Rendered
 where
     V: Fresh,
-    F: ParseFilter + Drop,
-    T: ParseTag<F> + Drop,
-    B: ParseBlock<F> + Drop,
+    F: ParseFilter,
+    T: ParseTag<F>,
+    B: ParseBlock<F>,
     T::Node: Discreet<V>,
     B::Node: Discreet<V>,
     ensures shows { PreparedShows B.Plan.Shape V.fresh F.Filter.Filter T.Node.Discreet B.Node.Discreet
@@ -164,9 +164,9 @@ fn render_texts<V, F, T, B>(
 ) -> Rendered
 where
     V: Fresh,
-    F: ParseFilter + Drop,
-    T: ParseTag<F> + Drop,
-    B: ParseBlock<F> + Drop,
+    F: ParseFilter,
+    T: ParseTag<F>,
+    B: ParseBlock<F>,
     T::Node: Discreet<V>,
     B::Node: Discreet<V>,
     ensures shows { ReadShows B.Plan.Shape V.fresh F.Filter.Filter T.Node.Discreet B.Node.Discreet
@@ -205,9 +205,9 @@ fn render_read<V, F, T, B>(
 ) -> Rendered
 where
     V: Fresh,
-    F: ParseFilter + Drop,
-    T: ParseTag<F> + Drop,
-    B: ParseBlock<F> + Drop,
+    F: ParseFilter,
+    T: ParseTag<F>,
+    B: ParseBlock<F>,
     T::Node: Discreet<V>,
     B::Node: Discreet<V>,
     ensures shows { TemplateShows B.Plan.Shape V.fresh F.Filter.Filter T.Node.Discreet B.Node.Discreet

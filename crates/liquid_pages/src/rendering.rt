@@ -47,9 +47,9 @@ pub fn read_template<F, T, B>(
     language: &Language<F, T, B>,
 ) -> Result<PageTemplate<F, T, B>, Error>
 where
-    F: ParseFilter + Drop,
-    T: ParseTag<F> + Drop,
-    B: ParseBlock<F> + Drop,
+    F: ParseFilter,
+    T: ParseTag<F>,
+    B: ParseBlock<F>,
     ensures { (answer : PageAnswer F.Filter.Shape T.Node.Shape B.Node.Shape) → Reads
         (language_of F.makes T.gives B.block language.now) text.now answer
         → Gives (nodes_in F.Filter.shape T.Node.shape B.Node.shape) result answer }
@@ -75,12 +75,12 @@ pub fn render_text<V, F, T, B, S, K>(
 ) -> Result<(), Error>
 where
     V: Fresh,
-    F: ParseFilter + Drop,
-    T: ParseTag<F> + Drop,
-    B: ParseBlock<F> + Drop,
+    F: ParseFilter,
+    T: ParseTag<F>,
+    B: ParseBlock<F>,
     T::Node: Discreet<V>,
     B::Node: Discreet<V>,
-    S: PartialSource + Drop,
+    S: PartialSource,
     K: Sink,
     ensures renders { Renders
         (setting V.fresh F.Filter.means T.Node.means B.Node.means)
@@ -109,12 +109,12 @@ pub fn render_template<V, F, T, B, S, K>(
 ) -> Result<(), Error>
 where
     V: Fresh,
-    F: ParseFilter + Drop,
-    T: ParseTag<F> + Drop,
-    B: ParseBlock<F> + Drop,
+    F: ParseFilter,
+    T: ParseTag<F>,
+    B: ParseBlock<F>,
     T::Node: Discreet<V>,
     B::Node: Discreet<V>,
-    S: PartialSource + Drop,
+    S: PartialSource,
     K: Sink,
     ensures renders { RendersTemplate V.fresh F.Filter.Filter T.Node.Discreet B.Node.Discreet
         (language_of F.makes T.gives B.block language.now.value) options template.now (names_of globals)
@@ -146,12 +146,12 @@ pub fn render_over_store<V, F, T, B, S, K>(
 ) -> (Result<(), Error>, Option<LazyStore<S, F, T, B>>)
 where
     V: Fresh,
-    F: ParseFilter + Drop,
-    T: ParseTag<F> + Drop,
-    B: ParseBlock<F> + Drop,
+    F: ParseFilter,
+    T: ParseTag<F>,
+    B: ParseBlock<F>,
     T::Node: Discreet<V>,
     B::Node: Discreet<V>,
-    S: PartialSource + Drop,
+    S: PartialSource,
     K: Sink,
     ensures renders { RendersOver V.fresh F.Filter.Filter T.Node.Discreet B.Node.Discreet B.Plan.Shape
         ⟦<LazyStore<S, F, T, B> as PartialStore<F::Filter, T::Node, B::Node>>⟧.finds
@@ -205,10 +205,10 @@ pub(crate) fn store_of<F, T, B, S>(
     partials: Option<S>,
 ) -> Result<Option<LazyStore<S, F, T, B>>, AllocError>
 where
-    F: ParseFilter + Drop,
-    T: ParseTag<F> + Drop,
-    B: ParseBlock<F> + Drop,
-    S: PartialSource + Drop,
+    F: ParseFilter,
+    T: ParseTag<F>,
+    B: ParseBlock<F>,
+    S: PartialSource,
     ensures { IfOk result (λ store. IsFoundIn (language_of F.makes T.gives B.block language.now.value) (option_map S.texts partials)
         (option_map ⟦<LazyStore<S, F, T, B> as PartialStore<F::Filter, T::Node, B::Node>>⟧.finds store)) }
 {
@@ -227,10 +227,10 @@ fn runtime_of<V, F, T, B, S>(
 ) -> PageRuntime<V, S, F, T, B>
 where
     V: Fresh,
-    F: ParseFilter + Drop,
-    T: ParseTag<F> + Drop,
-    B: ParseBlock<F> + Drop,
-    S: PartialSource + Drop,
+    F: ParseFilter,
+    T: ParseTag<F>,
+    B: ParseBlock<F>,
+    S: PartialSource,
     ensures view { ⟦<PageRuntime<V, S, F, T, B> as Runtime>⟧.view result ≡ built_over V.fresh leniency (names_of globals) }
     ensures store { ⟦<PageRuntime<V, S, F, T, B> as Runtime>⟧.store result ≡ store }
 {

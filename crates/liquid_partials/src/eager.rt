@@ -65,10 +65,10 @@ impl<S: PartialSource + MadeWith<Global>> EagerCompiler<S> {
 
 impl<S, F, T, B> PartialCompiler<F, T, B> for EagerCompiler<S>
 where
-    S: PartialSource + Drop,
-    F: ParseFilter + Drop,
-    T: ParseTag<F> + Drop,
-    B: ParseBlock<F> + Drop,
+    S: PartialSource,
+    F: ParseFilter,
+    T: ParseTag<F>,
+    B: ParseBlock<F>,
 {
     type Store = EagerStore<S, F, T, B>;
 
@@ -99,10 +99,10 @@ fn copy_names<S, F, T, B>(
     texts: &Texts<S, F, T, B>,
 ) -> Result<Vec<String>, AllocError>
 where
-    S: PartialSource + Drop,
-    F: ParseFilter + Drop,
-    T: ParseTag<F> + Drop,
-    B: ParseBlock<F> + Drop,
+    S: PartialSource,
+    F: ParseFilter,
+    T: ParseTag<F>,
+    B: ParseBlock<F>,
     ensures { IfOk result (λ names. map (λ name. string_bytes name) names.items ≡ keys (S.texts texts.now.source)) }
 {
     let names = texts.names(alloc)?;
@@ -128,10 +128,10 @@ where
 
 impl<S, F, T, B> PartialStore<F::Filter, T::Node, B::Node> for EagerStore<S, F, T, B>
 where
-    S: PartialSource + Drop,
-    F: ParseFilter + Drop,
-    T: ParseTag<F> + Drop,
-    B: ParseBlock<F> + Drop,
+    S: PartialSource,
+    F: ParseFilter,
+    T: ParseTag<F>,
+    B: ParseBlock<F>,
 {
     ghost finds = { λ store. kept_or_read (shared_nodes F.Filter.shape T.Node.shape B.Node.shape)
         (language_of F.makes T.gives B.block store.lazy.texts.parser.language.value) store.lazy.kept

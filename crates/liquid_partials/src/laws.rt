@@ -9,9 +9,7 @@ use liquid_plugins::ParseFilter;
 use liquid_template::PartialStore;
 
 /// Each source has a store in a language, and what it finds is determined by both.
-pub fn one_store<F: ParseFilter + Drop, T: ParseTag<F> + Drop, B: ParseBlock<F> + Drop>(
-    language: &Language<F, T, B>,
-)
+pub fn one_store<F: ParseFilter, T: ParseTag<F>, B: ParseBlock<F>>(language: &Language<F, T, B>)
     ensures { OneStore (language_of F.makes T.gives B.block language.now) }
 {}
 
@@ -19,9 +17,9 @@ pub fn one_store<F: ParseFilter + Drop, T: ParseTag<F> + Drop, B: ParseBlock<F> 
 /// for results that are out of memory.
 pub fn stores_agree<F, T, B, S, R>(language: &Language<F, T, B>, store: &S, other: &R)
 where
-    F: ParseFilter + Drop,
-    T: ParseTag<F> + Drop,
-    B: ParseBlock<F> + Drop,
+    F: ParseFilter,
+    T: ParseTag<F>,
+    B: ParseBlock<F>,
     S: PartialStore<F::Filter, T::Node, B::Node>,
     R: PartialStore<F::Filter, T::Node, B::Node>,
     ensures { StoresAgree (language_of F.makes T.gives B.block language.now) S.finds R.finds }
@@ -29,8 +27,6 @@ where
 
 /// Over any list of requests, a store that keeps its results parses at most as many texts as it keeps new names and as
 /// requests are out of memory.
-pub fn few_readings<F: ParseFilter + Drop, T: ParseTag<F> + Drop, B: ParseBlock<F> + Drop>(
-    _language: &Language<F, T, B>,
-)
+pub fn few_readings<F: ParseFilter, T: ParseTag<F>, B: ParseBlock<F>>(_language: &Language<F, T, B>)
     ensures { FewReadings (Nodes F.Filter.Shape T.Node.Shape B.Node.Shape) }
 {}

@@ -66,10 +66,10 @@ impl<S: PartialSource + MadeWith<Global>> LazyCompiler<S> {
 
 impl<S, F, T, B> PartialCompiler<F, T, B> for LazyCompiler<S>
 where
-    S: PartialSource + Drop,
-    F: ParseFilter + Drop,
-    T: ParseTag<F> + Drop,
-    B: ParseBlock<F> + Drop,
+    S: PartialSource,
+    F: ParseFilter,
+    T: ParseTag<F>,
+    B: ParseBlock<F>,
 {
     type Store = LazyStore<S, F, T, B>;
 
@@ -114,10 +114,10 @@ where
 
 impl<S, F, T, B> LazyStore<S, F, T, B>
 where
-    S: PartialSource + Drop,
-    F: ParseFilter + Drop,
-    T: ParseTag<F> + Drop,
-    B: ParseBlock<F> + Drop,
+    S: PartialSource,
+    F: ParseFilter,
+    T: ParseTag<F>,
+    B: ParseBlock<F>,
 {
     /// Returns `true` if the result for this name is kept. It takes no memory.
     #[tactic(auto, using(crate::proofs::EachLemmas::sources))]
@@ -179,10 +179,10 @@ where
 
 impl<S, F, T, B> PartialStore<F::Filter, T::Node, B::Node> for LazyStore<S, F, T, B>
 where
-    S: PartialSource + Drop,
-    F: ParseFilter + Drop,
-    T: ParseTag<F> + Drop,
-    B: ParseBlock<F> + Drop,
+    S: PartialSource,
+    F: ParseFilter,
+    T: ParseTag<F>,
+    B: ParseBlock<F>,
 {
     ghost finds = { λ store. kept_or_read (shared_nodes F.Filter.shape T.Node.shape B.Node.shape)
         (language_of F.makes T.gives B.block store.texts.parser.language.value) store.kept (S.texts store.texts.source) };
@@ -264,10 +264,10 @@ fn parse_for_store<S, F, T, B>(
     name: &str,
 ) -> Result<Option<Kept<F::Filter, T::Node, B::Node>>, AllocError>
 where
-    S: PartialSource + Drop,
-    F: ParseFilter + Drop,
-    T: ParseTag<F> + Drop,
-    B: ParseBlock<F> + Drop,
+    S: PartialSource,
+    F: ParseFilter,
+    T: ParseTag<F>,
+    B: ParseBlock<F>,
     ensures gives { IfOk result (λ kept. option_map (kept_as (shared_nodes F.Filter.shape T.Node.shape B.Node.shape)) kept
         ≡ get (readings (language_of F.makes T.gives B.block texts.old.parser.language.value) (S.texts texts.old.source)) name.now) }
     ensures told { IfOk result (λ kept. IfSome kept (λ answer. is_answer answer ≡ true)) }

@@ -64,10 +64,10 @@ impl<S: PartialSource + MadeWith<Global>> OnDemandCompiler<S> {
 
 impl<S, F, T, B> PartialCompiler<F, T, B> for OnDemandCompiler<S>
 where
-    S: PartialSource + Drop,
-    F: ParseFilter + Drop,
-    T: ParseTag<F> + Drop,
-    B: ParseBlock<F> + Drop,
+    S: PartialSource,
+    F: ParseFilter,
+    T: ParseTag<F>,
+    B: ParseBlock<F>,
 {
     type Store = OnDemandStore<S, F, T, B>;
 
@@ -97,10 +97,10 @@ pub struct OnDemandStore<S, F, T, B> {
 
 impl<S, F, T, B> PartialStore<F::Filter, T::Node, B::Node> for OnDemandStore<S, F, T, B>
 where
-    S: PartialSource + Drop,
-    F: ParseFilter + Drop,
-    T: ParseTag<F> + Drop,
-    B: ParseBlock<F> + Drop,
+    S: PartialSource,
+    F: ParseFilter,
+    T: ParseTag<F>,
+    B: ParseBlock<F>,
 {
     ghost finds = { λ store. readings (language_of F.makes T.gives B.block store.texts.parser.language.value)
         (S.texts store.texts.source) };

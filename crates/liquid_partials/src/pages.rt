@@ -38,12 +38,12 @@ pub fn render_page_in<V, F, T, B, S, K>(
 ) -> Result<(), Error>
 where
     V: Fresh,
-    F: ParseFilter + Drop,
-    T: ParseTag<F> + Drop,
-    B: ParseBlock<F> + Drop,
+    F: ParseFilter,
+    T: ParseTag<F>,
+    B: ParseBlock<F>,
     T::Node: Renderable<V>,
     B::Node: Renderable<V>,
-    S: PartialSource + Drop,
+    S: PartialSource,
     K: Sink,
     ensures { RendersPage V.fresh (setting V.fresh F.Filter.means T.Node.means B.Node.means)
         (language_of F.makes T.gives B.block language) text.now (names_of globals) (S.texts partials)
@@ -62,10 +62,10 @@ fn store_of<F, T, B, S>(
     partials: S,
 ) -> Result<LazyStore<S, F, T, B>, AllocError>
 where
-    F: ParseFilter + Drop,
-    T: ParseTag<F> + Drop,
-    B: ParseBlock<F> + Drop,
-    S: PartialSource + Drop,
+    F: ParseFilter,
+    T: ParseTag<F>,
+    B: ParseBlock<F>,
+    S: PartialSource,
     ensures { IfOk result (λ store. Compiled (language_of F.makes T.gives B.block language.now.value) (S.texts partials)
         (⟦<LazyStore<S, F, T, B> as PartialStore<F::Filter, T::Node, B::Node>>⟧.finds store)) }
 {
@@ -80,10 +80,10 @@ fn runtime_of<V, F, T, B, S>(
 ) -> PageRuntime<V, S, F, T, B>
 where
     V: Fresh,
-    F: ParseFilter + Drop,
-    T: ParseTag<F> + Drop,
-    B: ParseBlock<F> + Drop,
-    S: PartialSource + Drop,
+    F: ParseFilter,
+    T: ParseTag<F>,
+    B: ParseBlock<F>,
+    S: PartialSource,
     ensures view { ⟦<PageRuntime<V, S, F, T, B> as Runtime>⟧.view result ≡ built_view V.fresh page_depth (names_of globals) }
     ensures store { ⟦<PageRuntime<V, S, F, T, B> as Runtime>⟧.store result ≡ Some store }
 {

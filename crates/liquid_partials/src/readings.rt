@@ -132,9 +132,9 @@ pub struct TextParser<F, T, B> {
 
 impl<F, T, B> TextParser<F, T, B>
 where
-    F: ParseFilter + Drop,
-    T: ParseTag<F> + Drop,
-    B: ParseBlock<F> + Drop,
+    F: ParseFilter,
+    T: ParseTag<F>,
+    B: ParseBlock<F>,
 {
     /// Returns the parser of texts in this language.
     pub fn new(language: Rc<Language<F, T, B>>) -> TextParser<F, T, B>
@@ -164,7 +164,7 @@ where
 }
 
 /// Returns the template of a text for all that request it, or the text's fault.
-fn parse_shared<F: ParseFilter + Drop, T: ParseTag<F> + Drop, B: ParseBlock<F> + Drop>(
+fn parse_shared<F: ParseFilter, T: ParseTag<F>, B: ParseBlock<F>>(
     alloc: Global,
     text: &str,
     language: &Language<F, T, B>,
@@ -177,7 +177,7 @@ fn parse_shared<F: ParseFilter + Drop, T: ParseTag<F> + Drop, B: ParseBlock<F> +
 }
 
 /// Returns the template of a text, or the text's fault.
-fn parse_text<F: ParseFilter + Drop, T: ParseTag<F> + Drop, B: ParseBlock<F> + Drop>(
+fn parse_text<F: ParseFilter, T: ParseTag<F>, B: ParseBlock<F>>(
     alloc: Global,
     text: &str,
     language: &Language<F, T, B>,

@@ -26,9 +26,9 @@ pub fn render_source<F, T, B, R, K>(
     sink: &mut K,
 ) -> Result<(), Error>
 where
-    F: ParseFilter + Drop,
-    T: ParseTag<F> + Drop,
-    B: ParseBlock<F> + Drop,
+    F: ParseFilter,
+    T: ParseTag<F>,
+    B: ParseBlock<F>,
     R: Runtime,
     T::Node: Renderable<R::Register>,
     B::Node: Renderable<R::Register>,

@@ -12,7 +12,7 @@ use std::alloc::{AllocError, Global};
 use std::borrow::CowStr;
 
 /// A source of partials: a finite map from names to texts.
-pub trait PartialSource {
+pub trait PartialSource: Drop {
     ghost texts: { Self → Texts };
 
     /// Returns `true` if there is a text of this name.

@@ -31,10 +31,10 @@ pub struct Texts<S, F, T, B> {
 
 impl<S, F, T, B> Texts<S, F, T, B>
 where
-    S: PartialSource + Drop,
-    F: ParseFilter + Drop,
-    T: ParseTag<F> + Drop,
-    B: ParseBlock<F> + Drop,
+    S: PartialSource,
+    F: ParseFilter,
+    T: ParseTag<F>,
+    B: ParseBlock<F>,
 {
     /// Returns the texts of a source, of which none is read yet.
     pub fn new(source: S, language: Rc<Language<F, T, B>>) -> Texts<S, F, T, B>

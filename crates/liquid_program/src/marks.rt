@@ -16,7 +16,7 @@ pub(crate) struct Marking {
 }
 
 /// Returns what is marked for the error at a place of a text.
-pub(crate) fn marking_of<F: ParseFilter, T: TagReflection + Drop, B: ParseBlock<F> + Drop>(
+pub(crate) fn marking_of<F: ParseFilter, T: TagReflection + Drop, B: ParseBlock<F>>(
     alloc: Global,
     text: &str,
     place: usize,
@@ -84,7 +84,7 @@ fn length_of_read(following: &str, message: Message<'_>) -> Option<usize> {
 }
 
 /// Returns the part of the element at a place that an error of rendering is about.
-fn span_of_failed<F: ParseFilter, T: TagReflection + Drop, B: ParseBlock<F> + Drop>(
+fn span_of_failed<F: ParseFilter, T: TagReflection + Drop, B: ParseBlock<F>>(
     alloc: Global,
     text: &str,
     place: usize,

@@ -134,7 +134,7 @@ struct Notes<'s> {
 
 impl Notes<'_> {
     /// Returns the lines that explain the error: its positions from the inside out, and what may help.
-    fn collect<F: ParseFilter, T: TagReflection + Drop, B: ParseBlock<F> + Drop>(
+    fn collect<F: ParseFilter, T: TagReflection + Drop, B: ParseBlock<F>>(
         self,
         error: &Error,
         language: &Language<F, T, B>,
@@ -187,7 +187,7 @@ impl Notes<'_> {
     }
 
     /// Adds the positions in the texts of partials, of so many positions in all.
-    fn add_sites<F: ParseFilter, T: TagReflection + Drop, B: ParseBlock<F> + Drop>(
+    fn add_sites<F: ParseFilter, T: TagReflection + Drop, B: ParseBlock<F>>(
         &mut self,
         error: &Error,
         count: usize,
@@ -205,7 +205,7 @@ impl Notes<'_> {
     }
 
     /// Adds a position in the text of a partial.
-    fn add_partial<F: ParseFilter, T: TagReflection + Drop, B: ParseBlock<F> + Drop>(
+    fn add_partial<F: ParseFilter, T: TagReflection + Drop, B: ParseBlock<F>>(
         &mut self,
         number: usize,
         name: &str,
@@ -221,7 +221,7 @@ impl Notes<'_> {
     }
 
     /// Adds a position in a text: that of the error, if it is the first, and otherwise that of a call.
-    fn add_position<F: ParseFilter, T: TagReflection + Drop, B: ParseBlock<F> + Drop>(
+    fn add_position<F: ParseFilter, T: TagReflection + Drop, B: ParseBlock<F>>(
         &mut self,
         number: usize,
         partial: Option<&str>,
@@ -245,7 +245,7 @@ impl Notes<'_> {
     }
 
     /// Adds the position of the error, with its line and what is known of it.
-    fn add_error<F: ParseFilter, T: TagReflection + Drop, B: ParseBlock<F> + Drop>(
+    fn add_error<F: ParseFilter, T: TagReflection + Drop, B: ParseBlock<F>>(
         &mut self,
         partial: Option<&str>,
         text: &str,

@@ -14,7 +14,7 @@ pub(crate) struct OpenBlock<'a, B> {
 }
 
 /// Returns the innermost block that is open in a text where `following` follows, if the text has no error before that.
-pub(crate) fn innermost<'a, F: ParseFilter, T: TagReflection + Drop, B: ParseBlock<F> + Drop>(
+pub(crate) fn innermost<'a, F: ParseFilter, T: TagReflection + Drop, B: ParseBlock<F>>(
     alloc: Global,
     text: &'a str,
     following: &str,
@@ -51,7 +51,7 @@ pub(crate) fn innermost<'a, F: ParseFilter, T: TagReflection + Drop, B: ParseBlo
 }
 
 /// Returns the block that a tag begins, if it begins one. If it ends the innermost one, that one is open no more.
-fn begin<'a, F: ParseFilter, T: TagReflection + Drop, B: ParseBlock<F> + Drop>(
+fn begin<'a, F: ParseFilter, T: TagReflection + Drop, B: ParseBlock<F>>(
     open: &mut Vec<OpenBlock<'a, B>>,
     tag: TagText<'a>,
     language: &'a Language<F, T, B>,
@@ -103,7 +103,7 @@ fn after_escaped<'a>(
 }
 
 /// Returns where a variable is in the dividers of the block whose start tag has its name at this place of a text.
-pub(crate) fn find_in_dividers<F: ParseFilter, T: TagReflection + Drop, B: ParseBlock<F> + Drop>(
+pub(crate) fn find_in_dividers<F: ParseFilter, T: TagReflection + Drop, B: ParseBlock<F>>(
     alloc: Global,
     text: &str,
     place: usize,
@@ -154,7 +154,7 @@ fn split_start(text: &str, place: usize) -> Option<(&str, &str)> {
 }
 
 /// Returns the block that begins with this name.
-fn block_of<'a, F: ParseFilter, T: TagReflection + Drop, B: ParseBlock<F> + Drop>(
+fn block_of<'a, F: ParseFilter, T: TagReflection + Drop, B: ParseBlock<F>>(
     from: &str,
     language: &'a Language<F, T, B>,
 ) -> Option<&'a B> {

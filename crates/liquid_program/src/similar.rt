@@ -94,7 +94,7 @@ pub(crate) fn offer_pairs(
 }
 
 /// Returns the name that a word of another language has here, if the error is about such a name.
-pub(crate) fn find_foreign<F: ParseFilter, T: TagReflection + Drop, B: ParseBlock<F> + Drop>(
+pub(crate) fn find_foreign<F: ParseFilter, T: TagReflection + Drop, B: ParseBlock<F>>(
     message: Message<'_>,
     language: &Language<F, T, B>,
 ) -> Option<&'static str> {

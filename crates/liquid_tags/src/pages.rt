@@ -26,7 +26,7 @@ pub fn render_page<F, S, K>(
 ) -> Result<(), Error>
 where
     F: ParseFilter,
-    S: PartialSource + Drop,
+    S: PartialSource,
     K: Sink,
     ensures { RendersPage F.Filter.means (registry_of F.makes filters) text.now (names_of globals) (S.texts partials)
         (K.sunk sink.old) (K.sunk sink.new) result }

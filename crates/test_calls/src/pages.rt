@@ -53,9 +53,9 @@ fn runtime(alloc: Global) -> Option<BuiltRuntime<(), ()>> {
 /// Returns the template of a text in a language, or `None` if it has an error.
 fn page<F, T, B>(alloc: Global, language: &Language<F, T, B>, text: &str) -> Option<Page<F, T, B>>
 where
-    F: ParseFilter + Drop,
-    T: ParseTag<F> + Drop,
-    B: ParseBlock<F> + Drop,
+    F: ParseFilter,
+    T: ParseTag<F>,
+    B: ParseBlock<F>,
 {
     match parse(alloc, text, language) {
         Ok(nodes) => Some(Template::new(nodes)),
@@ -281,9 +281,9 @@ where
 /// Returns `true` if each call writes the page of a language.
 fn is_rendered<F, T, B>(alloc: Global, language: Result<Language<F, T, B>, AllocError>) -> bool
 where
-    F: ParseFilter + Drop,
-    T: ParseTag<F> + Drop,
-    B: ParseBlock<F> + Drop,
+    F: ParseFilter,
+    T: ParseTag<F>,
+    B: ParseBlock<F>,
     T::Node: Discreet<()>,
     B::Node: Discreet<()>,
 {

@@ -26,10 +26,10 @@ struct OnDemand;
 
 impl<S, F, T, B> Kind<S, F, T, B> for OnDemand
 where
-    S: PartialSource + Drop,
-    F: ParseFilter + Drop,
-    T: ParseTag<F> + Drop,
-    B: ParseBlock<F> + Drop,
+    S: PartialSource,
+    F: ParseFilter,
+    T: ParseTag<F>,
+    B: ParseBlock<F>,
 {
     type Store = OnDemandStore<S, F, T, B>;
 
@@ -46,10 +46,10 @@ struct Lazy;
 
 impl<S, F, T, B> Kind<S, F, T, B> for Lazy
 where
-    S: PartialSource + Drop,
-    F: ParseFilter + Drop,
-    T: ParseTag<F> + Drop,
-    B: ParseBlock<F> + Drop,
+    S: PartialSource,
+    F: ParseFilter,
+    T: ParseTag<F>,
+    B: ParseBlock<F>,
 {
     type Store = LazyStore<S, F, T, B>;
 
@@ -66,10 +66,10 @@ struct Eager;
 
 impl<S, F, T, B> Kind<S, F, T, B> for Eager
 where
-    S: PartialSource + Drop,
-    F: ParseFilter + Drop,
-    T: ParseTag<F> + Drop,
-    B: ParseBlock<F> + Drop,
+    S: PartialSource,
+    F: ParseFilter,
+    T: ParseTag<F>,
+    B: ParseBlock<F>,
 {
     type Store = EagerStore<S, F, T, B>;
 
@@ -89,10 +89,10 @@ fn store_of<S, F, T, B, K>(
     language: &Rc<Language<F, T, B>>,
 ) -> Option<K::Store>
 where
-    S: PartialSource + Drop,
-    F: ParseFilter + Drop,
-    T: ParseTag<F> + Drop,
-    B: ParseBlock<F> + Drop,
+    S: PartialSource,
+    F: ParseFilter,
+    T: ParseTag<F>,
+    B: ParseBlock<F>,
     K: Kind<S, F, T, B>,
 {
     match source.zip(language.clone().ok()) {
@@ -202,9 +202,9 @@ fn store<F, T, B, K>(
     asked: &Rc<Cell<u64>>,
 ) -> Option<K::Store>
 where
-    F: ParseFilter + Drop,
-    T: ParseTag<F> + Drop,
-    B: ParseBlock<F> + Drop,
+    F: ParseFilter,
+    T: ParseTag<F>,
+    B: ParseBlock<F>,
     K: Kind<CountingSource<InMemorySource>, F, T, B>,
 {
     store_of::<CountingSource<InMemorySource>, F, T, B, K>(alloc, counting(alloc, asked), language)
@@ -213,9 +213,9 @@ where
 /// Returns `true` if each kind of store returns what it has.
 fn each_answers<F, T, B>(alloc: Global, language: Result<Language<F, T, B>, AllocError>) -> bool
 where
-    F: ParseFilter + Drop,
-    T: ParseTag<F> + Drop,
-    B: ParseBlock<F> + Drop,
+    F: ParseFilter,
+    T: ParseTag<F>,
+    B: ParseBlock<F>,
 {
     match shared(alloc, language).zip(Rc::new(alloc, Cell::new(0)).ok()) {
         Some((language, asked)) => {

@@ -36,9 +36,9 @@ fn called<C, F, T, B>(
     boxes: usize,
 ) -> Result<Seen, Problem>
 where
-    F: ParseFilter + Drop,
-    T: ParseTag<F> + Drop,
-    B: ParseBlock<F> + Drop,
+    F: ParseFilter,
+    T: ParseTag<F>,
+    B: ParseBlock<F>,
     T::Node: Discreet<()>,
     B::Node: Discreet<()>,
     C: PartialCompiler<F, T, B> + OfSource + Drop,
@@ -65,9 +65,9 @@ fn called_otherwise<F, T, B>(
     boxes: usize,
 ) -> Result<Seen, Problem>
 where
-    F: ParseFilter + Drop,
-    T: ParseTag<F> + Drop,
-    B: ParseBlock<F> + Drop,
+    F: ParseFilter,
+    T: ParseTag<F>,
+    B: ParseBlock<F>,
     T::Node: Discreet<()>,
     B::Node: Discreet<()>,
 {
@@ -88,9 +88,9 @@ fn called_over<F, T, B>(
     boxes: usize,
 ) -> Result<Seen, Problem>
 where
-    F: ParseFilter + Drop,
-    T: ParseTag<F> + Drop,
-    B: ParseBlock<F> + Drop,
+    F: ParseFilter,
+    T: ParseTag<F>,
+    B: ParseBlock<F>,
     T::Node: Discreet<()>,
     B::Node: Discreet<()>,
 {
@@ -111,9 +111,9 @@ fn called_in<F, T, B>(
     boxes: usize,
 ) -> Result<Seen, Problem>
 where
-    F: ParseFilter + Drop,
-    T: ParseTag<F> + Drop,
-    B: ParseBlock<F> + Drop,
+    F: ParseFilter,
+    T: ParseTag<F>,
+    B: ParseBlock<F>,
     T::Node: Discreet<()>,
     B::Node: Discreet<()>,
 {

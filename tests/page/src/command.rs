@@ -99,9 +99,9 @@ fn perform_in<R, F, T, B>(
 ) -> Option<Ended>
 where
     R: Rewrite,
-    F: ParseFilter + Drop,
-    T: ParseTag<F> + Drop,
-    B: ParseBlock<F> + Drop,
+    F: ParseFilter,
+    T: ParseTag<F>,
+    B: ParseBlock<F>,
     T::Node: Discreet<Marks>,
     B::Node: Discreet<Marks>,
 {

@@ -24,7 +24,7 @@ fn shows<X: Filter>(
 }
 
 /// Returns `true` if a token shows the chain or the text that is given.
-fn is_tried_as<F: ParseFilter + Drop>(
+fn is_tried_as<F: ParseFilter>(
     alloc: Global,
     token: TagToken<'_>,
     text: &str,
@@ -37,7 +37,7 @@ fn is_tried_as<F: ParseFilter + Drop>(
 }
 
 /// Returns `true` if the first token of a row's tag shows the chain or the text of the row.
-pub(crate) fn is_tried<F: ParseFilter + Drop>(
+pub(crate) fn is_tried<F: ParseFilter>(
     alloc: Global,
     row: &Line,
     filters: &PluginRegistry<F>,

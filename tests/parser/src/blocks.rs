@@ -35,9 +35,9 @@ fn body_text<F, T, B>(
     language: &Language<F, T, B>,
 ) -> Result<String, Error>
 where
-    F: ParseFilter + Drop,
-    T: ParseTag<F> + Drop,
-    B: ParseBlock<F> + Drop,
+    F: ParseFilter,
+    T: ParseTag<F>,
+    B: ParseBlock<F>,
     T::Node: Renderable<()>,
     B::Node: Renderable<()>,
 {
@@ -76,9 +76,9 @@ static BODIES: &str = r#"["{% end %}a", ""]
 /// Returns `true` if a row has the result of its body.
 pub(crate) fn is_parsed<F, T, B>(alloc: Global, row: &Line, language: &Language<F, T, B>) -> bool
 where
-    F: ParseFilter + Drop,
-    T: ParseTag<F> + Drop,
-    B: ParseBlock<F> + Drop,
+    F: ParseFilter,
+    T: ParseTag<F>,
+    B: ParseBlock<F>,
     T::Node: Renderable<()>,
     B::Node: Renderable<()>,
 {
@@ -107,9 +107,9 @@ fn boxed_text<F, T, B>(
     language: &Language<F, T, B>,
 ) -> Result<String, Error>
 where
-    F: ParseFilter + Drop,
-    T: ParseTag<F> + Drop,
-    B: ParseBlock<F> + Drop,
+    F: ParseFilter,
+    T: ParseTag<F>,
+    B: ParseBlock<F>,
     T::Node: Renderable<()>,
     B::Node: Renderable<()>,
 {
@@ -140,9 +140,9 @@ pub(crate) fn are_boxes_parsed<F, T, B>(
     language: &Language<F, T, B>,
 ) -> bool
 where
-    F: ParseFilter + Drop,
-    T: ParseTag<F> + Drop,
-    B: ParseBlock<F> + Drop,
+    F: ParseFilter,
+    T: ParseTag<F>,
+    B: ParseBlock<F>,
     T::Node: Renderable<()>,
     B::Node: Renderable<()>,
 {

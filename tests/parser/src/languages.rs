@@ -29,9 +29,9 @@ pub(crate) enum Check {
 /// Returns `true` if a row passes a check in a language.
 fn row_holds<F, T, B>(alloc: Global, check: Check, row: &Line, language: &Language<F, T, B>) -> bool
 where
-    F: ParseFilter + Drop,
-    T: ParseTag<F> + Drop,
-    B: ParseBlock<F> + Drop,
+    F: ParseFilter,
+    T: ParseTag<F>,
+    B: ParseBlock<F>,
     T::Node: Renderable<()>,
     B::Node: Renderable<()>,
 {
@@ -56,9 +56,9 @@ fn line_holds<F, T, B>(
     language: &Language<F, T, B>,
 ) -> bool
 where
-    F: ParseFilter + Drop,
-    T: ParseTag<F> + Drop,
-    B: ParseBlock<F> + Drop,
+    F: ParseFilter,
+    T: ParseTag<F>,
+    B: ParseBlock<F>,
     T::Node: Renderable<()>,
     B::Node: Renderable<()>,
 {
@@ -76,9 +76,9 @@ fn rows_hold_in<F, T, B>(
     language: &Language<F, T, B>,
 ) -> Result<(), Fail>
 where
-    F: ParseFilter + Drop,
-    T: ParseTag<F> + Drop,
-    B: ParseBlock<F> + Drop,
+    F: ParseFilter,
+    T: ParseTag<F>,
+    B: ParseBlock<F>,
     T::Node: Renderable<()>,
     B::Node: Renderable<()>,
 {

@@ -32,9 +32,9 @@ fn add_next<F, T, B>(
     language: &Language<F, T, B>,
 ) -> bool
 where
-    F: ParseFilter + Drop,
-    T: ParseTag<F> + Drop,
-    B: ParseBlock<F> + Drop,
+    F: ParseFilter,
+    T: ParseTag<F>,
+    B: ParseBlock<F>,
 {
     match block.next(alloc) {
         Ok(Some(element)) => push(nodes, element.parse(alloc, block, language)),
@@ -50,9 +50,9 @@ fn add_expression<F, T, B>(
     language: &Language<F, T, B>,
 ) -> bool
 where
-    F: ParseFilter + Drop,
-    T: ParseTag<F> + Drop,
-    B: ParseBlock<F> + Drop,
+    F: ParseFilter,
+    T: ParseTag<F>,
+    B: ParseBlock<F>,
 {
     match block.next(alloc) {
         Ok(Some(BlockElement::Expression(exp))) => push(nodes, exp.parse(alloc, language)),
@@ -68,9 +68,9 @@ fn add_four<F, T, B>(
     language: &Language<F, T, B>,
 ) -> bool
 where
-    F: ParseFilter + Drop,
-    T: ParseTag<F> + Drop,
-    B: ParseBlock<F> + Drop,
+    F: ParseFilter,
+    T: ParseTag<F>,
+    B: ParseBlock<F>,
 {
     add_next(alloc, nodes, block, language)
         && add_next(alloc, nodes, block, language)
@@ -87,9 +87,9 @@ fn four_come_to<F, T, B>(
     language: &Language<F, T, B>,
 ) -> bool
 where
-    F: ParseFilter + Drop,
-    T: ParseTag<F> + Drop,
-    B: ParseBlock<F> + Drop,
+    F: ParseFilter,
+    T: ParseTag<F>,
+    B: ParseBlock<F>,
     T::Node: Renderable<()>,
     B::Node: Renderable<()>,
 {
@@ -105,9 +105,9 @@ fn has_no_next<F, T, B>(
     language: &Language<F, T, B>,
 ) -> bool
 where
-    F: ParseFilter + Drop,
-    T: ParseTag<F> + Drop,
-    B: ParseBlock<F> + Drop,
+    F: ParseFilter,
+    T: ParseTag<F>,
+    B: ParseBlock<F>,
 {
     match block.parse_next(alloc, language) {
         Ok(next) => next.is_none(),
@@ -123,9 +123,9 @@ pub(crate) fn are_four_parsed<F, T, B>(
     language: &Language<F, T, B>,
 ) -> bool
 where
-    F: ParseFilter + Drop,
-    T: ParseTag<F> + Drop,
-    B: ParseBlock<F> + Drop,
+    F: ParseFilter,
+    T: ParseTag<F>,
+    B: ParseBlock<F>,
     T::Node: Renderable<()>,
     B::Node: Renderable<()>,
 {
@@ -171,9 +171,9 @@ fn token_is_refused<F, T, B>(
     _language: &Language<F, T, B>,
 ) -> bool
 where
-    F: ParseFilter + Drop,
-    T: ParseTag<F> + Drop,
-    B: ParseBlock<F> + Drop,
+    F: ParseFilter,
+    T: ParseTag<F>,
+    B: ParseBlock<F>,
 {
     let read: Result<Node<F::Filter, T::Node, B::Node>, Error> = token.parse(alloc, block);
     is_refused_as(alloc, read, refusal)
@@ -187,9 +187,9 @@ fn brace_is_refused<F, T, B>(
     language: &Language<F, T, B>,
 ) -> bool
 where
-    F: ParseFilter + Drop,
-    T: ParseTag<F> + Drop,
-    B: ParseBlock<F> + Drop,
+    F: ParseFilter,
+    T: ParseTag<F>,
+    B: ParseBlock<F>,
 {
     match block.next(alloc) {
         Ok(Some(BlockElement::Invalid(token))) => {
@@ -219,9 +219,9 @@ fn add_box<F, T, B>(
     language: &Language<F, T, B>,
 ) -> bool
 where
-    F: ParseFilter + Drop,
-    T: ParseTag<F> + Drop,
-    B: ParseBlock<F> + Drop,
+    F: ParseFilter,
+    T: ParseTag<F>,
+    B: ParseBlock<F>,
 {
     match Tag::new(alloc, "{% box %}") {
         Ok(tag) => {
@@ -240,9 +240,9 @@ fn box_comes_to<F, T, B>(
     language: &Language<F, T, B>,
 ) -> bool
 where
-    F: ParseFilter + Drop,
-    T: ParseTag<F> + Drop,
-    B: ParseBlock<F> + Drop,
+    F: ParseFilter,
+    T: ParseTag<F>,
+    B: ParseBlock<F>,
     T::Node: Renderable<()>,
     B::Node: Renderable<()>,
 {
@@ -259,9 +259,9 @@ pub(crate) fn is_box_parsed<F, T, B>(
     language: &Language<F, T, B>,
 ) -> bool
 where
-    F: ParseFilter + Drop,
-    T: ParseTag<F> + Drop,
-    B: ParseBlock<F> + Drop,
+    F: ParseFilter,
+    T: ParseTag<F>,
+    B: ParseBlock<F>,
     T::Node: Renderable<()>,
     B::Node: Renderable<()>,
 {

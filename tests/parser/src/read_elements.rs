@@ -35,9 +35,9 @@ fn next_read<F, T, B>(
     language: &Language<F, T, B>,
 ) -> Result<Node<F::Filter, T::Node, B::Node>, Error>
 where
-    F: ParseFilter + Drop,
-    T: ParseTag<F> + Drop,
-    B: ParseBlock<F> + Drop,
+    F: ParseFilter,
+    T: ParseTag<F>,
+    B: ParseBlock<F>,
 {
     match TagBlock::next(block, alloc)? {
         None => Err(Error::with_msg(alloc, "a body has no element")),
@@ -50,9 +50,9 @@ where
 /// Returns `true` if the first element of a row's body is read as a kind of node, or if its error has the row's text.
 pub(crate) fn is_read<F, T, B>(alloc: Global, row: &Line, language: &Language<F, T, B>) -> bool
 where
-    F: ParseFilter + Drop,
-    T: ParseTag<F> + Drop,
-    B: ParseBlock<F> + Drop,
+    F: ParseFilter,
+    T: ParseTag<F>,
+    B: ParseBlock<F>,
 {
     match texts_at(row, 0, 1) {
         Some((body, kind)) => {

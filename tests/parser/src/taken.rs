@@ -12,7 +12,7 @@ const MISSING: &str = "Token expected";
 
 /// Takes the next token as what a row expects. Returns `true` if its text, or the first line of the error, is the
 /// answer.
-fn next_is<F: ParseFilter + Drop>(
+fn next_is<F: ParseFilter>(
     alloc: Global,
     expected: &str,
     answer: &str,
@@ -36,7 +36,7 @@ fn next_is<F: ParseFilter + Drop>(
 
 /// Returns `true` if the next token of a tag is the answer, or has it as the first line of its error, and these tokens
 /// are left.
-fn next_and_rest_are<F: ParseFilter + Drop>(
+fn next_and_rest_are<F: ParseFilter>(
     alloc: Global,
     (expected, tag): (&str, &str),
     (answer, left): (&str, &str),
@@ -53,7 +53,7 @@ fn next_and_rest_are<F: ParseFilter + Drop>(
 
 /// Returns `true` if the next token of a row's tag is what the row says, or has the row's error, and the same tokens
 /// are left.
-pub(crate) fn is_taken<F: ParseFilter + Drop>(
+pub(crate) fn is_taken<F: ParseFilter>(
     alloc: Global,
     row: &Line,
     filters: &PluginRegistry<F>,

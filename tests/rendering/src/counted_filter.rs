@@ -59,7 +59,7 @@ fn is_rendered<F, R>(
     mut runtime: R,
 ) -> bool
 where
-    F: ParseFilter + Drop,
+    F: ParseFilter,
     R: Runtime<Register = (), Store = ()> + Drop,
 {
     match parse(alloc, text, language) {
@@ -75,7 +75,7 @@ where
 /// Returns `true` if a text is rendered in a language of a filter alone.
 fn renders<F>(alloc: Global, text: &str, filter: Option<F>) -> bool
 where
-    F: ParseFilter + Drop,
+    F: ParseFilter,
 {
     match language_of(alloc, filter) {
         Some(language) => is_rendered(alloc, text, &language, no_names(alloc)),
@@ -117,7 +117,7 @@ fn store<F>(
     filter: Option<F>,
 ) -> Option<OnDemandStore<InMemorySource, F, NoPlugin, NoPlugin>>
 where
-    F: ParseFilter + Drop,
+    F: ParseFilter,
 {
     let language = Rc::new(alloc, language_of(alloc, filter)?).ok()?;
     match source(alloc) {

@@ -34,9 +34,9 @@ fn rendered<F, T, B, R>(
     mut runtime: R,
 ) -> Result<String, Error>
 where
-    F: ParseFilter + Drop,
-    T: ParseTag<F> + Drop,
-    B: ParseBlock<F> + Drop,
+    F: ParseFilter,
+    T: ParseTag<F>,
+    B: ParseBlock<F>,
     T::Node: Renderable<()>,
     B::Node: Renderable<()>,
     R: Runtime<Register = ()> + Drop,
@@ -71,9 +71,9 @@ fn is_same_at_once<F, T, B, R>(
     rendered: Result<String, Error>,
 ) -> bool
 where
-    F: ParseFilter + Drop,
-    T: ParseTag<F> + Drop,
-    B: ParseBlock<F> + Drop,
+    F: ParseFilter,
+    T: ParseTag<F>,
+    B: ParseBlock<F>,
     T::Node: Renderable<()>,
     B::Node: Renderable<()>,
     R: Runtime<Register = ()> + Drop,
@@ -92,9 +92,9 @@ where
 /// Returns `true` if a text that is parsed and rendered has the same result in one call.
 fn is_tried<F, T, B>(alloc: Global, language: &Language<F, T, B>, text: &str) -> bool
 where
-    F: ParseFilter + Drop,
-    T: ParseTag<F> + Drop,
-    B: ParseBlock<F> + Drop,
+    F: ParseFilter,
+    T: ParseTag<F>,
+    B: ParseBlock<F>,
     T::Node: Renderable<()>,
     B::Node: Renderable<()>,
 {
@@ -115,9 +115,9 @@ fn tries<F, T, B>(
     count: &mut usize,
 ) -> bool
 where
-    F: ParseFilter + Drop,
-    T: ParseTag<F> + Drop,
-    B: ParseBlock<F> + Drop,
+    F: ParseFilter,
+    T: ParseTag<F>,
+    B: ParseBlock<F>,
     T::Node: Renderable<()>,
     B::Node: Renderable<()>,
 {
@@ -136,9 +136,9 @@ fn tries_followed<F, T, B>(
     count: &mut usize,
 ) -> bool
 where
-    F: ParseFilter + Drop,
-    T: ParseTag<F> + Drop,
-    B: ParseBlock<F> + Drop,
+    F: ParseFilter,
+    T: ParseTag<F>,
+    B: ParseBlock<F>,
     T::Node: Renderable<()>,
     B::Node: Renderable<()>,
 {
@@ -153,9 +153,9 @@ where
 /// Tries each piece, and each followed by one and by two pieces, and counts these texts.
 fn tries_all<F, T, B>(alloc: Global, language: &Language<F, T, B>, count: &mut usize) -> bool
 where
-    F: ParseFilter + Drop,
-    T: ParseTag<F> + Drop,
-    B: ParseBlock<F> + Drop,
+    F: ParseFilter,
+    T: ParseTag<F>,
+    B: ParseBlock<F>,
     T::Node: Renderable<()>,
     B::Node: Renderable<()>,
 {
@@ -179,9 +179,9 @@ fn are_tried<F, T, B>(
     wanted: usize,
 ) -> bool
 where
-    F: ParseFilter + Drop,
-    T: ParseTag<F> + Drop,
-    B: ParseBlock<F> + Drop,
+    F: ParseFilter,
+    T: ParseTag<F>,
+    B: ParseBlock<F>,
     T::Node: Renderable<()>,
     B::Node: Renderable<()>,
 {
@@ -228,9 +228,9 @@ fn is_meant<F, T, B>(
     wanted: Option<&str>,
 ) -> bool
 where
-    F: ParseFilter + Drop,
-    T: ParseTag<F> + Drop,
-    B: ParseBlock<F> + Drop,
+    F: ParseFilter,
+    T: ParseTag<F>,
+    B: ParseBlock<F>,
     T::Node: Renderable<()>,
     B::Node: Renderable<()>,
 {
@@ -246,9 +246,9 @@ fn are_meant<F, T, B>(
     language: Result<Language<F, T, B>, AllocError>,
 ) -> Result<(), Fail>
 where
-    F: ParseFilter + Drop,
-    T: ParseTag<F> + Drop,
-    B: ParseBlock<F> + Drop,
+    F: ParseFilter,
+    T: ParseTag<F>,
+    B: ParseBlock<F>,
     T::Node: Renderable<()>,
     B::Node: Renderable<()>,
 {

@@ -27,10 +27,10 @@ pub(crate) struct OnDemand;
 
 impl<S, F, T, B> Kind<S, F, T, B> for OnDemand
 where
-    S: PartialSource + Drop,
-    F: ParseFilter + Drop,
-    T: ParseTag<F> + Drop,
-    B: ParseBlock<F> + Drop,
+    S: PartialSource,
+    F: ParseFilter,
+    T: ParseTag<F>,
+    B: ParseBlock<F>,
 {
     type Store = OnDemandStore<S, F, T, B>;
 
@@ -47,10 +47,10 @@ pub(crate) struct Lazy;
 
 impl<S, F, T, B> Kind<S, F, T, B> for Lazy
 where
-    S: PartialSource + Drop,
-    F: ParseFilter + Drop,
-    T: ParseTag<F> + Drop,
-    B: ParseBlock<F> + Drop,
+    S: PartialSource,
+    F: ParseFilter,
+    T: ParseTag<F>,
+    B: ParseBlock<F>,
 {
     type Store = LazyStore<S, F, T, B>;
 
@@ -67,10 +67,10 @@ pub(crate) struct Eager;
 
 impl<S, F, T, B> Kind<S, F, T, B> for Eager
 where
-    S: PartialSource + Drop,
-    F: ParseFilter + Drop,
-    T: ParseTag<F> + Drop,
-    B: ParseBlock<F> + Drop,
+    S: PartialSource,
+    F: ParseFilter,
+    T: ParseTag<F>,
+    B: ParseBlock<F>,
 {
     type Store = EagerStore<S, F, T, B>;
 
@@ -90,10 +90,10 @@ pub(crate) fn store_of<S, F, T, B, K>(
     language: &Rc<Language<F, T, B>>,
 ) -> Option<K::Store>
 where
-    S: PartialSource + Drop,
-    F: ParseFilter + Drop,
-    T: ParseTag<F> + Drop,
-    B: ParseBlock<F> + Drop,
+    S: PartialSource,
+    F: ParseFilter,
+    T: ParseTag<F>,
+    B: ParseBlock<F>,
     K: Kind<S, F, T, B>,
 {
     match source.zip(language.clone().ok()) {

@@ -148,9 +148,9 @@ fn each_is_written<F, T, B>(
     of_turns: bool,
 ) -> bool
 where
-    F: ParseFilter + Drop,
-    T: ParseTag<F> + Drop,
-    B: ParseBlock<F> + Drop,
+    F: ParseFilter,
+    T: ParseTag<F>,
+    B: ParseBlock<F>,
     T::Node: Discreet<()>,
     B::Node: Discreet<()>,
 {
@@ -177,9 +177,9 @@ fn is_written_in<F, T, B>(
     row: &Line,
 ) -> bool
 where
-    F: ParseFilter + Drop,
-    T: ParseTag<F> + Drop,
-    B: ParseBlock<F> + Drop,
+    F: ParseFilter,
+    T: ParseTag<F>,
+    B: ParseBlock<F>,
     T::Node: Discreet<()>,
     B::Node: Discreet<()>,
 {
@@ -195,9 +195,9 @@ where
 /// Returns `true` if a row's texts are written in each of the surroundings.
 fn is_limited_in<F, T, B>(alloc: Global, language: &Language<F, T, B>, row: &Line) -> bool
 where
-    F: ParseFilter + Drop,
-    T: ParseTag<F> + Drop,
-    B: ParseBlock<F> + Drop,
+    F: ParseFilter,
+    T: ParseTag<F>,
+    B: ParseBlock<F>,
     T::Node: Discreet<()>,
     B::Node: Discreet<()>,
 {
@@ -218,9 +218,9 @@ fn is_limited<F, T, B>(
     row: &Line,
 ) -> bool
 where
-    F: ParseFilter + Drop,
-    T: ParseTag<F> + Drop,
-    B: ParseBlock<F> + Drop,
+    F: ParseFilter,
+    T: ParseTag<F>,
+    B: ParseBlock<F>,
     T::Node: Discreet<()>,
     B::Node: Discreet<()>,
 {
@@ -262,9 +262,9 @@ where
 /// Returns `true` if the sink of the text `a` in a language is given back.
 fn gives_back<F, T, B>(alloc: Global, language: Result<Language<F, T, B>, AllocError>) -> bool
 where
-    F: ParseFilter + Drop,
-    T: ParseTag<F> + Drop,
-    B: ParseBlock<F> + Drop,
+    F: ParseFilter,
+    T: ParseTag<F>,
+    B: ParseBlock<F>,
     T::Node: Discreet<()>,
     B::Node: Discreet<()>,
 {

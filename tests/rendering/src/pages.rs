@@ -59,9 +59,9 @@ fn runtime<F, T, B, K>(
     language: &Rc<Language<F, T, B>>,
 ) -> Option<Over<K::Store>>
 where
-    F: ParseFilter + Drop,
-    T: ParseTag<F> + Drop,
-    B: ParseBlock<F> + Drop,
+    F: ParseFilter,
+    T: ParseTag<F>,
+    B: ParseBlock<F>,
     K: Kind<InMemorySource, F, T, B>,
 {
     if row.member("partials").is_none() {
@@ -99,9 +99,9 @@ fn holds_at_once<F, T, B, R>(
     runtime: Option<R>,
 ) -> bool
 where
-    F: ParseFilter + Drop,
-    T: ParseTag<F> + Drop,
-    B: ParseBlock<F> + Drop,
+    F: ParseFilter,
+    T: ParseTag<F>,
+    B: ParseBlock<F>,
     T::Node: Renderable<()>,
     B::Node: Renderable<()>,
     R: Runtime<Register = ()> + Drop,
@@ -126,9 +126,9 @@ fn holds_by<F, T, B, K>(
     rendering: Rendering,
 ) -> bool
 where
-    F: ParseFilter + Drop,
-    T: ParseTag<F> + Drop,
-    B: ParseBlock<F> + Drop,
+    F: ParseFilter,
+    T: ParseTag<F>,
+    B: ParseBlock<F>,
     T::Node: Renderable<()>,
     B::Node: Renderable<()>,
     K: Kind<InMemorySource, F, T, B>,
@@ -143,9 +143,9 @@ where
 /// text.
 fn holds_once_read<F, T, B, K>(alloc: Global, row: &Row, language: &Rc<Language<F, T, B>>) -> bool
 where
-    F: ParseFilter + Drop,
-    T: ParseTag<F> + Drop,
-    B: ParseBlock<F> + Drop,
+    F: ParseFilter,
+    T: ParseTag<F>,
+    B: ParseBlock<F>,
     T::Node: Renderable<()>,
     B::Node: Renderable<()>,
     K: Kind<InMemorySource, F, T, B>,
@@ -165,9 +165,9 @@ where
 /// Returns `true` if a row passes with each of the calls, over a kind of store.
 fn holds_by_each<F, T, B, K>(alloc: Global, row: &Row, language: &Rc<Language<F, T, B>>) -> bool
 where
-    F: ParseFilter + Drop,
-    T: ParseTag<F> + Drop,
-    B: ParseBlock<F> + Drop,
+    F: ParseFilter,
+    T: ParseTag<F>,
+    B: ParseBlock<F>,
     T::Node: Renderable<()>,
     B::Node: Renderable<()>,
     K: Kind<InMemorySource, F, T, B>,
@@ -189,9 +189,9 @@ fn row_holds<F, T, B>(
     language: &Rc<Language<F, T, B>>,
 ) -> bool
 where
-    F: ParseFilter + Drop,
-    T: ParseTag<F> + Drop,
-    B: ParseBlock<F> + Drop,
+    F: ParseFilter,
+    T: ParseTag<F>,
+    B: ParseBlock<F>,
     T::Node: Renderable<()>,
     B::Node: Renderable<()>,
 {
@@ -209,9 +209,9 @@ fn line_holds<F, T, B>(
     language: &Rc<Language<F, T, B>>,
 ) -> bool
 where
-    F: ParseFilter + Drop,
-    T: ParseTag<F> + Drop,
-    B: ParseBlock<F> + Drop,
+    F: ParseFilter,
+    T: ParseTag<F>,
+    B: ParseBlock<F>,
     T::Node: Renderable<()>,
     B::Node: Renderable<()>,
 {
@@ -235,9 +235,9 @@ fn table_holds<F, T, B>(
     language: &Rc<Language<F, T, B>>,
 ) -> Result<(), Fail>
 where
-    F: ParseFilter + Drop,
-    T: ParseTag<F> + Drop,
-    B: ParseBlock<F> + Drop,
+    F: ParseFilter,
+    T: ParseTag<F>,
+    B: ParseBlock<F>,
     T::Node: Renderable<()>,
     B::Node: Renderable<()>,
 {
@@ -259,9 +259,9 @@ pub(crate) fn tables_hold<F, T, B>(
     language: Result<Language<F, T, B>, AllocError>,
 ) -> Result<(), Fail>
 where
-    F: ParseFilter + Drop,
-    T: ParseTag<F> + Drop,
-    B: ParseBlock<F> + Drop,
+    F: ParseFilter,
+    T: ParseTag<F>,
+    B: ParseBlock<F>,
     T::Node: Renderable<()>,
     B::Node: Renderable<()>,
 {

@@ -170,9 +170,9 @@ where
 /// Fails for a kind of store that returns something else than the rows say.
 fn answers_from<F, T, B, K>(alloc: Global, language: &Rc<Language<F, T, B>>) -> Result<(), Fail>
 where
-    F: ParseFilter + Drop,
-    T: ParseTag<F> + Drop,
-    B: ParseBlock<F> + Drop,
+    F: ParseFilter,
+    T: ParseTag<F>,
+    B: ParseBlock<F>,
     T::Node: Renderable<()>,
     B::Node: Renderable<()>,
     K: Kind<InMemorySource, F, T, B>,
@@ -191,9 +191,9 @@ fn answers_from_each<F, T, B>(
     language: Result<Rc<Language<F, T, B>>, AllocError>,
 ) -> Result<(), Fail>
 where
-    F: ParseFilter + Drop,
-    T: ParseTag<F> + Drop,
-    B: ParseBlock<F> + Drop,
+    F: ParseFilter,
+    T: ParseTag<F>,
+    B: ParseBlock<F>,
     T::Node: Renderable<()>,
     B::Node: Renderable<()>,
 {
@@ -239,9 +239,9 @@ fn keeps_trees_and_faults<F, T, B>(
     store: &mut LazyStore<InMemorySource, F, T, B>,
 ) -> bool
 where
-    F: ParseFilter + Drop,
-    T: ParseTag<F> + Drop,
-    B: ParseBlock<F> + Drop,
+    F: ParseFilter,
+    T: ParseTag<F>,
+    B: ParseBlock<F>,
 {
     !store.is_kept("p")
         && !store.is_kept("bad")
@@ -257,9 +257,9 @@ where
 /// Returns `true` if a lazy store in a language keeps just that.
 fn is_lazy<F, T, B>(alloc: Global, language: Result<Rc<Language<F, T, B>>, AllocError>) -> bool
 where
-    F: ParseFilter + Drop,
-    T: ParseTag<F> + Drop,
-    B: ParseBlock<F> + Drop,
+    F: ParseFilter,
+    T: ParseTag<F>,
+    B: ParseBlock<F>,
 {
     match source(alloc).zip(language.ok()) {
         Some((source, language)) => match Lazy::store(alloc, source, language) {

@@ -114,9 +114,9 @@ fn calls_hold<F, T, B, K>(
     count: &mut usize,
 ) -> bool
 where
-    F: ParseFilter + Drop,
-    T: ParseTag<F> + Drop,
-    B: ParseBlock<F> + Drop,
+    F: ParseFilter,
+    T: ParseTag<F>,
+    B: ParseBlock<F>,
     T::Node: Discreet<()>,
     B::Node: Discreet<()>,
     K: Failing,
@@ -144,9 +144,9 @@ fn sinks_hold<F, T, B, K>(
     count: &mut usize,
 ) -> bool
 where
-    F: ParseFilter + Drop,
-    T: ParseTag<F> + Drop,
-    B: ParseBlock<F> + Drop,
+    F: ParseFilter,
+    T: ParseTag<F>,
+    B: ParseBlock<F>,
     T::Node: Discreet<()>,
     B::Node: Discreet<()>,
     K: Failing,
@@ -168,9 +168,9 @@ fn line_holds<F, T, B, K>(
     count: &mut usize,
 ) -> bool
 where
-    F: ParseFilter + Drop,
-    T: ParseTag<F> + Drop,
-    B: ParseBlock<F> + Drop,
+    F: ParseFilter,
+    T: ParseTag<F>,
+    B: ParseBlock<F>,
     T::Node: Discreet<()>,
     B::Node: Discreet<()>,
     K: Failing,
@@ -192,9 +192,9 @@ fn rows_hold<F, T, B, K>(
     count: &mut usize,
 ) -> bool
 where
-    F: ParseFilter + Drop,
-    T: ParseTag<F> + Drop,
-    B: ParseBlock<F> + Drop,
+    F: ParseFilter,
+    T: ParseTag<F>,
+    B: ParseBlock<F>,
     T::Node: Discreet<()>,
     B::Node: Discreet<()>,
     K: Failing,
@@ -217,9 +217,9 @@ pub(crate) fn all_hold<F, T, B, K>(
     wanted: usize,
 ) -> bool
 where
-    F: ParseFilter + Drop,
-    T: ParseTag<F> + Drop,
-    B: ParseBlock<F> + Drop,
+    F: ParseFilter,
+    T: ParseTag<F>,
+    B: ParseBlock<F>,
     T::Node: Discreet<()>,
     B::Node: Discreet<()>,
     K: Failing,

@@ -41,9 +41,9 @@ pub(crate) fn page<F, T, B>(
     text: &str,
 ) -> Option<Page<F, T, B>>
 where
-    F: ParseFilter + Drop,
-    T: ParseTag<F> + Drop,
-    B: ParseBlock<F> + Drop,
+    F: ParseFilter,
+    T: ParseTag<F>,
+    B: ParseBlock<F>,
 {
     match parse(alloc, text, language) {
         Ok(nodes) => Some(Template::new(nodes)),
@@ -58,9 +58,9 @@ pub(crate) fn page_of<F, T, B>(
     row: &Line,
 ) -> Option<Page<F, T, B>>
 where
-    F: ParseFilter + Drop,
-    T: ParseTag<F> + Drop,
-    B: ParseBlock<F> + Drop,
+    F: ParseFilter,
+    T: ParseTag<F>,
+    B: ParseBlock<F>,
 {
     match row.text(0) {
         Some(text) => page(alloc, language, text),
@@ -79,9 +79,9 @@ pub(crate) fn names(alloc: Global) -> Option<Object> {
 /// Returns the partial `p` in a language.
 fn partial<F, T, B>(alloc: Global, language: &Language<F, T, B>) -> Option<Rc<Page<F, T, B>>>
 where
-    F: ParseFilter + Drop,
-    T: ParseTag<F> + Drop,
-    B: ParseBlock<F> + Drop,
+    F: ParseFilter,
+    T: ParseTag<F>,
+    B: ParseBlock<F>,
 {
     match page(alloc, language, "p{{ 7 }}{% set g 3 %}") {
         Some(page) => Rc::new(alloc, page).ok(),
@@ -92,9 +92,9 @@ where
 /// Returns a store of the partial `p` in a language.
 fn store<F, T, B>(alloc: Global, language: &Language<F, T, B>) -> Option<Store<F, T, B>>
 where
-    F: ParseFilter + Drop,
-    T: ParseTag<F> + Drop,
-    B: ParseBlock<F> + Drop,
+    F: ParseFilter,
+    T: ParseTag<F>,
+    B: ParseBlock<F>,
 {
     match String::from_str(alloc, "p")
         .ok()
@@ -128,9 +128,9 @@ pub(crate) fn runtime<F, T, B>(
     language: &Language<F, T, B>,
 ) -> Option<BuiltRuntime<(), Store<F, T, B>>>
 where
-    F: ParseFilter + Drop,
-    T: ParseTag<F> + Drop,
-    B: ParseBlock<F> + Drop,
+    F: ParseFilter,
+    T: ParseTag<F>,
+    B: ParseBlock<F>,
 {
     built(alloc, names(alloc), store(alloc, language))
 }

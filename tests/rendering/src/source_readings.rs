@@ -97,9 +97,9 @@ fn store<F, T, B, K>(
     asked: &Rc<Cell<u64>>,
 ) -> Option<K::Store>
 where
-    F: ParseFilter + Drop,
-    T: ParseTag<F> + Drop,
-    B: ParseBlock<F> + Drop,
+    F: ParseFilter,
+    T: ParseTag<F>,
+    B: ParseBlock<F>,
     K: Kind<CountingSource<InMemorySource>, F, T, B>,
 {
     store_of::<CountingSource<InMemorySource>, F, T, B, K>(alloc, counting(alloc, asked), language)
@@ -108,9 +108,9 @@ where
 /// Returns `true` if each kind of store reads its source when it says.
 fn each_reads<F, T, B>(alloc: Global, language: Result<Rc<Language<F, T, B>>, AllocError>) -> bool
 where
-    F: ParseFilter + Drop,
-    T: ParseTag<F> + Drop,
-    B: ParseBlock<F> + Drop,
+    F: ParseFilter,
+    T: ParseTag<F>,
+    B: ParseBlock<F>,
 {
     match language.ok().zip(Rc::new(alloc, Cell::new(0)).ok()) {
         Some((language, asked)) => {

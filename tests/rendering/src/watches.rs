@@ -78,9 +78,9 @@ fn each_is_written<F, T, B>(
     turns: u64,
 ) -> bool
 where
-    F: ParseFilter + Drop,
-    T: ParseTag<F> + Drop,
-    B: ParseBlock<F> + Drop,
+    F: ParseFilter,
+    T: ParseTag<F>,
+    B: ParseBlock<F>,
     T::Node: Discreet<()>,
     B::Node: Discreet<()>,
 {
@@ -103,9 +103,9 @@ fn is_watched<F, T, B>(
     row: &Line,
 ) -> bool
 where
-    F: ParseFilter + Drop,
-    T: ParseTag<F> + Drop,
-    B: ParseBlock<F> + Drop,
+    F: ParseFilter,
+    T: ParseTag<F>,
+    B: ParseBlock<F>,
     T::Node: Discreet<()>,
     B::Node: Discreet<()>,
 {

@@ -26,9 +26,9 @@ pub(crate) struct OnDemand;
 
 impl<F, T, B> Kind<F, T, B> for OnDemand
 where
-    F: ParseFilter + Drop,
-    T: ParseTag<F> + Drop,
-    B: ParseBlock<F> + Drop,
+    F: ParseFilter,
+    T: ParseTag<F>,
+    B: ParseBlock<F>,
 {
     type Store = OnDemandStore<InMemorySource, F, T, B>;
 
@@ -46,9 +46,9 @@ pub(crate) struct Eager;
 
 impl<F, T, B> Kind<F, T, B> for Eager
 where
-    F: ParseFilter + Drop,
-    T: ParseTag<F> + Drop,
-    B: ParseBlock<F> + Drop,
+    F: ParseFilter,
+    T: ParseTag<F>,
+    B: ParseBlock<F>,
 {
     type Store = EagerStore<InMemorySource, F, T, B>;
 

@@ -198,9 +198,9 @@ fn parent_over<F, T, B, K>(
     language: &Rc<Language<F, T, B>>,
 ) -> Option<Over<K::Store>>
 where
-    F: ParseFilter + Drop,
-    T: ParseTag<F> + Drop,
-    B: ParseBlock<F> + Drop,
+    F: ParseFilter,
+    T: ParseTag<F>,
+    B: ParseBlock<F>,
     K: Kind<F, T, B>,
 {
     let store = K::store(alloc, source(alloc, place.row)?, language).ok()?;
@@ -215,9 +215,9 @@ fn holds_over_parent<F, T, B, K>(
     page: &Template<F::Filter, T::Node, B::Node>,
 ) -> bool
 where
-    F: ParseFilter + Drop,
-    T: ParseTag<F> + Drop,
-    B: ParseBlock<F> + Drop,
+    F: ParseFilter,
+    T: ParseTag<F>,
+    B: ParseBlock<F>,
     T::Node: Discreet<Visits>,
     B::Node: Discreet<Visits>,
     K: Kind<F, T, B>,
@@ -237,9 +237,9 @@ fn holds_over_scopes<S, F, T, B, K>(
 ) -> bool
 where
     S: Scopes<Register = Visits, Base = Over<K::Store>, Store = K::Store>,
-    F: ParseFilter + Drop,
-    T: ParseTag<F> + Drop,
-    B: ParseBlock<F> + Drop,
+    F: ParseFilter,
+    T: ParseTag<F>,
+    B: ParseBlock<F>,
     T::Node: Discreet<Visits>,
     B::Node: Discreet<Visits>,
     K: Kind<F, T, B>,
@@ -258,9 +258,9 @@ fn holds_over<F, T, B, K>(
     page: &Template<F::Filter, T::Node, B::Node>,
 ) -> bool
 where
-    F: ParseFilter + Drop,
-    T: ParseTag<F> + Drop,
-    B: ParseBlock<F> + Drop,
+    F: ParseFilter,
+    T: ParseTag<F>,
+    B: ParseBlock<F>,
     T::Node: Discreet<Visits>,
     B::Node: Discreet<Visits>,
     K: Kind<F, T, B>,
@@ -281,9 +281,9 @@ fn holds_within<F, T, B, K>(
     page: &Template<F::Filter, T::Node, B::Node>,
 ) -> bool
 where
-    F: ParseFilter + Drop,
-    T: ParseTag<F> + Drop,
-    B: ParseBlock<F> + Drop,
+    F: ParseFilter,
+    T: ParseTag<F>,
+    B: ParseBlock<F>,
     T::Node: Discreet<Visits>,
     B::Node: Discreet<Visits>,
     K: Kind<F, T, B>,
@@ -313,9 +313,9 @@ fn page_holds<F, T, B, K>(
     page: &Template<F::Filter, T::Node, B::Node>,
 ) -> bool
 where
-    F: ParseFilter + Drop,
-    T: ParseTag<F> + Drop,
-    B: ParseBlock<F> + Drop,
+    F: ParseFilter,
+    T: ParseTag<F>,
+    B: ParseBlock<F>,
     T::Node: Discreet<Visits>,
     B::Node: Discreet<Visits>,
     K: Kind<F, T, B>,
@@ -336,9 +336,9 @@ pub(crate) fn row_holds<F, T, B, K>(
     language: &Rc<Language<F, T, B>>,
 ) -> bool
 where
-    F: ParseFilter + Drop,
-    T: ParseTag<F> + Drop,
-    B: ParseBlock<F> + Drop,
+    F: ParseFilter,
+    T: ParseTag<F>,
+    B: ParseBlock<F>,
     T::Node: Discreet<Visits>,
     B::Node: Discreet<Visits>,
     K: Kind<F, T, B>,

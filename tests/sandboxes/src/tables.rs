@@ -60,9 +60,9 @@ fn line_holds<F, T, B, K>(
     language: &Rc<Language<F, T, B>>,
 ) -> bool
 where
-    F: ParseFilter + Drop,
-    T: ParseTag<F> + Drop,
-    B: ParseBlock<F> + Drop,
+    F: ParseFilter,
+    T: ParseTag<F>,
+    B: ParseBlock<F>,
     T::Node: Discreet<Visits>,
     B::Node: Discreet<Visits>,
     K: Kind<F, T, B>,
@@ -81,9 +81,9 @@ fn table_holds<F, T, B, K>(
     language: &Rc<Language<F, T, B>>,
 ) -> Result<(), Fail>
 where
-    F: ParseFilter + Drop,
-    T: ParseTag<F> + Drop,
-    B: ParseBlock<F> + Drop,
+    F: ParseFilter,
+    T: ParseTag<F>,
+    B: ParseBlock<F>,
     T::Node: Discreet<Visits>,
     B::Node: Discreet<Visits>,
     K: Kind<F, T, B>,
@@ -106,9 +106,9 @@ fn tables_hold<F, T, B, K>(
     language: Language<F, T, B>,
 ) -> Result<(), Fail>
 where
-    F: ParseFilter + Drop,
-    T: ParseTag<F> + Drop,
-    B: ParseBlock<F> + Drop,
+    F: ParseFilter,
+    T: ParseTag<F>,
+    B: ParseBlock<F>,
     T::Node: Discreet<Visits>,
     B::Node: Discreet<Visits>,
     K: Kind<F, T, B>,

@@ -21,9 +21,9 @@ fn is_rendered<F, T, B, R>(
     runtime: &mut R,
 ) -> bool
 where
-    F: ParseFilter + Drop,
-    T: ParseTag<F> + Drop,
-    B: ParseBlock<F> + Drop,
+    F: ParseFilter,
+    T: ParseTag<F>,
+    B: ParseBlock<F>,
     R: Runtime,
     T::Node: Renderable<R::Register>,
     B::Node: Renderable<R::Register>,
@@ -41,9 +41,9 @@ fn runtime_of<F, T, B>(
     language: &Rc<Language<F, T, B>>,
 ) -> Option<Over<LazyStore<InMemorySource, F, T, B>>>
 where
-    F: ParseFilter + Drop,
-    T: ParseTag<F> + Drop,
-    B: ParseBlock<F> + Drop,
+    F: ParseFilter,
+    T: ParseTag<F>,
+    B: ParseBlock<F>,
 {
     let store = store_of(alloc, row, language)?;
     match data_of(alloc, row) {
@@ -55,9 +55,9 @@ where
 /// Returns `true` if a row comes to what it says in a language.
 fn row_holds<F, T, B>(alloc: Global, row: &Row, language: &Rc<Language<F, T, B>>) -> bool
 where
-    F: ParseFilter + Drop,
-    T: ParseTag<F> + Drop,
-    B: ParseBlock<F> + Drop,
+    F: ParseFilter,
+    T: ParseTag<F>,
+    B: ParseBlock<F>,
     T::Node: Renderable<Marks>,
     B::Node: Renderable<Marks>,
 {
@@ -70,9 +70,9 @@ where
 /// Returns `true` if the row of a line comes to what it says in a language.
 fn line_holds<F, T, B>(alloc: Global, line: &str, language: &Rc<Language<F, T, B>>) -> bool
 where
-    F: ParseFilter + Drop,
-    T: ParseTag<F> + Drop,
-    B: ParseBlock<F> + Drop,
+    F: ParseFilter,
+    T: ParseTag<F>,
+    B: ParseBlock<F>,
     T::Node: Renderable<Marks>,
     B::Node: Renderable<Marks>,
 {
@@ -85,9 +85,9 @@ where
 /// Fails for the first row that does not come to what it says in a language.
 fn all_hold<F, T, B>(alloc: Global, language: &Rc<Language<F, T, B>>) -> Result<(), Fail>
 where
-    F: ParseFilter + Drop,
-    T: ParseTag<F> + Drop,
-    B: ParseBlock<F> + Drop,
+    F: ParseFilter,
+    T: ParseTag<F>,
+    B: ParseBlock<F>,
     T::Node: Renderable<Marks>,
     B::Node: Renderable<Marks>,
 {

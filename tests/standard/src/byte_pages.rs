@@ -155,9 +155,9 @@ fn is_shown_at_once<F, T, B>(
     partials: &[PartialBytes<'_>],
 ) -> bool
 where
-    F: ParseFilter + Drop,
-    T: ParseTag<F> + Drop,
-    B: ParseBlock<F> + Drop,
+    F: ParseFilter,
+    T: ParseTag<F>,
+    B: ParseBlock<F>,
     T::Node: Discreet<()>,
     B::Node: Discreet<()>,
 {
@@ -170,9 +170,9 @@ where
 /// Returns `true` if the next rendering of a row's page ends as the row says.
 fn is_shown_next<F, T, B>(alloc: Global, page: &mut PreparedPage<F, T, B>, row: &Row<'_>) -> bool
 where
-    F: ParseFilter + Drop,
-    T: ParseTag<F> + Drop,
-    B: ParseBlock<F> + Drop,
+    F: ParseFilter,
+    T: ParseTag<F>,
+    B: ParseBlock<F>,
     T::Node: Discreet<()>,
     B::Node: Discreet<()>,
 {
@@ -189,9 +189,9 @@ fn is_shown<F, T, B>(
     partials: &[PartialBytes<'_>],
 ) -> bool
 where
-    F: ParseFilter + Drop,
-    T: ParseTag<F> + Drop,
-    B: ParseBlock<F> + Drop,
+    F: ParseFilter,
+    T: ParseTag<F>,
+    B: ParseBlock<F>,
     T::Node: Discreet<()>,
     B::Node: Discreet<()>,
 {
@@ -206,9 +206,9 @@ where
 /// Fails for the first row whose page does not end as the row says.
 fn all_are_shown<F, T, B>(alloc: Global, language: Language<F, T, B>) -> Result<(), Fail>
 where
-    F: ParseFilter + Drop,
-    T: ParseTag<F> + Drop,
-    B: ParseBlock<F> + Drop,
+    F: ParseFilter,
+    T: ParseTag<F>,
+    B: ParseBlock<F>,
     T::Node: Discreet<()>,
     B::Node: Discreet<()>,
 {

@@ -34,9 +34,9 @@ fn render_twice<F, T, B, R>(
     sink: &mut TextSink,
 ) -> Result<(), Error>
 where
-    F: ParseFilter + Drop,
-    T: ParseTag<F> + Drop,
-    B: ParseBlock<F> + Drop,
+    F: ParseFilter,
+    T: ParseTag<F>,
+    B: ParseBlock<F>,
     T::Node: Renderable<Desk>,
     B::Node: Renderable<Desk>,
     R: Runtime<Register = Desk>,

@@ -66,9 +66,9 @@ fn runtime_over<F, T, B>(
     parent: &Line,
 ) -> Option<Over<LazyStore<InMemorySource, F, T, B>>>
 where
-    F: ParseFilter + Drop,
-    T: ParseTag<F> + Drop,
-    B: ParseBlock<F> + Drop,
+    F: ParseFilter,
+    T: ParseTag<F>,
+    B: ParseBlock<F>,
 {
     over(alloc, parent, row, store_of(alloc, row, language)?)
 }
@@ -83,9 +83,9 @@ fn holds_over<F, T, B>(
     is_sandboxed: bool,
 ) -> bool
 where
-    F: ParseFilter + Drop,
-    T: ParseTag<F> + Drop,
-    B: ParseBlock<F> + Drop,
+    F: ParseFilter,
+    T: ParseTag<F>,
+    B: ParseBlock<F>,
     T::Node: Discreet<Marks>,
     B::Node: Discreet<Marks>,
 {
@@ -104,9 +104,9 @@ fn holds_within<F, T, B>(
     line: &str,
 ) -> bool
 where
-    F: ParseFilter + Drop,
-    T: ParseTag<F> + Drop,
-    B: ParseBlock<F> + Drop,
+    F: ParseFilter,
+    T: ParseTag<F>,
+    B: ParseBlock<F>,
     T::Node: Discreet<Marks>,
     B::Node: Discreet<Marks>,
 {
@@ -128,9 +128,9 @@ fn holds_over_each<F, T, B>(
     row: &Row,
 ) -> bool
 where
-    F: ParseFilter + Drop,
-    T: ParseTag<F> + Drop,
-    B: ParseBlock<F> + Drop,
+    F: ParseFilter,
+    T: ParseTag<F>,
+    B: ParseBlock<F>,
     T::Node: Discreet<Marks>,
     B::Node: Discreet<Marks>,
 {
@@ -145,9 +145,9 @@ where
 /// Returns `true` if a row holds over each parent, or has the error of its text.
 fn row_holds<F, T, B>(alloc: Global, language: &Rc<Language<F, T, B>>, row: &Row) -> bool
 where
-    F: ParseFilter + Drop,
-    T: ParseTag<F> + Drop,
-    B: ParseBlock<F> + Drop,
+    F: ParseFilter,
+    T: ParseTag<F>,
+    B: ParseBlock<F>,
     T::Node: Discreet<Marks>,
     B::Node: Discreet<Marks>,
 {
@@ -160,9 +160,9 @@ where
 /// Returns `true` if the row of a line holds.
 fn line_holds<F, T, B>(alloc: Global, language: &Rc<Language<F, T, B>>, line: &str) -> bool
 where
-    F: ParseFilter + Drop,
-    T: ParseTag<F> + Drop,
-    B: ParseBlock<F> + Drop,
+    F: ParseFilter,
+    T: ParseTag<F>,
+    B: ParseBlock<F>,
     T::Node: Discreet<Marks>,
     B::Node: Discreet<Marks>,
 {
@@ -175,9 +175,9 @@ where
 /// Fails for the first row that does not hold in a language.
 fn all_hold<F, T, B>(alloc: Global, language: &Rc<Language<F, T, B>>) -> Result<(), Fail>
 where
-    F: ParseFilter + Drop,
-    T: ParseTag<F> + Drop,
-    B: ParseBlock<F> + Drop,
+    F: ParseFilter,
+    T: ParseTag<F>,
+    B: ParseBlock<F>,
     T::Node: Discreet<Marks>,
     B::Node: Discreet<Marks>,
 {

@@ -76,9 +76,9 @@ pub(crate) fn store_of<F, T, B>(
     language: &Rc<Language<F, T, B>>,
 ) -> Option<LazyStore<InMemorySource, F, T, B>>
 where
-    F: ParseFilter + Drop,
-    T: ParseTag<F> + Drop,
-    B: ParseBlock<F> + Drop,
+    F: ParseFilter,
+    T: ParseTag<F>,
+    B: ParseBlock<F>,
 {
     let compiler = LazyCompiler::new(source_of(alloc, row)?);
     compiler.compile(alloc, language.clone().ok()?).ok()

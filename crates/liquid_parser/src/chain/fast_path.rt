@@ -41,12 +41,7 @@ pub(crate) enum Walked<V> {
 /// Returns the node of the expression that the text begins with, and what follows it. The result is undecided, too, if
 /// a dash has whitespace before it, or if no expression opens here.
 #[inline(always)]
-pub(crate) fn fast_expression<
-    'a,
-    F: ParseFilter + Drop,
-    T: ParseTag<F> + Drop,
-    B: ParseBlock<F> + Drop,
->(
+pub(crate) fn fast_expression<'a, F: ParseFilter, T: ParseTag<F>, B: ParseBlock<F>>(
     alloc: Global,
     s: &'a str,
     language: &Language<F, T, B>,
@@ -63,7 +58,7 @@ pub(crate) fn fast_expression<
 
 /// Reads an expression from its chain on. It is a function of its own, so that the walk over tags and raw text stays short.
 #[inline(never)]
-fn fast_from_chain<'a, F: ParseFilter + Drop, T: ParseTag<F> + Drop, B: ParseBlock<F> + Drop>(
+fn fast_from_chain<'a, F: ParseFilter, T: ParseTag<F>, B: ParseBlock<F>>(
     alloc: Global,
     start: &'a str,
     language: &Language<F, T, B>,
@@ -118,7 +113,7 @@ pub(crate) fn name_node<F: ParseFilter, T: ParseTag<F>, B: ParseBlock<F>>(
 }
 
 /// Returns the chain whose value has this beginning, where the text follows it, and what follows the expression's end.
-fn fast_chain<'a, F: ParseFilter + Drop>(
+fn fast_chain<'a, F: ParseFilter>(
     alloc: Global,
     head: Head<'_>,
     s: &'a str,
@@ -141,7 +136,7 @@ fn fast_chain<'a, F: ParseFilter + Drop>(
 }
 
 /// Returns the filters that begin here, each after `|`, and what follows the expression's end.
-fn fast_filters<'a, F: ParseFilter + Drop>(
+fn fast_filters<'a, F: ParseFilter>(
     alloc: Global,
     s: &'a str,
     registry: &PluginRegistry<F>,
@@ -169,7 +164,7 @@ fn fast_filters<'a, F: ParseFilter + Drop>(
 }
 
 /// Returns the filter with this beginning, and what follows it. Returns `None` if it may be an error.
-fn fast_filter<'a, F: ParseFilter + Drop>(
+fn fast_filter<'a, F: ParseFilter>(
     alloc: Global,
     start: FilterStart<'a>,
     registry: &PluginRegistry<F>,

@@ -24,7 +24,7 @@ use std::alloc::Global;
 ///
 /// Fails for a filter that the registry doesn't have, and with the error of a filter. The first error from the left is
 /// returned.
-pub(crate) fn parse_chain<F: ParseFilter + Drop>(
+pub(crate) fn parse_chain<F: ParseFilter>(
     alloc: Global,
     source: &str,
     s: &str,
@@ -43,7 +43,7 @@ pub(crate) fn parse_chain<F: ParseFilter + Drop>(
 }
 
 /// Returns the filters that begin here, each after `|`.
-fn parse_filters<F: ParseFilter + Drop>(
+fn parse_filters<F: ParseFilter>(
     alloc: Global,
     source: &str,
     s: &str,
@@ -63,7 +63,7 @@ fn parse_filters<F: ParseFilter + Drop>(
 }
 
 /// Returns the filter with this beginning, and what follows it.
-fn parse_filter<'a, F: ParseFilter + Drop>(
+fn parse_filter<'a, F: ParseFilter>(
     alloc: Global,
     source: &str,
     start: FilterStart<'a>,
@@ -88,7 +88,7 @@ fn parse_filter<'a, F: ParseFilter + Drop>(
 }
 
 /// Returns the error for a filter that the registry doesn't have.
-fn unknown_filter_error<F: ParseFilter + Drop>(
+fn unknown_filter_error<F: ParseFilter>(
     alloc: Global,
     source: &str,
     start: FilterStart<'_>,

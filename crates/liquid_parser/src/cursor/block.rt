@@ -124,7 +124,7 @@ impl<'a, 'n> TagBlock<'a, 'n> {
     /// Returns the node of the next element. Returns `None` at the end tag, which closes the block, and after it.
     ///
     /// Fails if `next` does, or if parsing the element does. Then the place of the cursor is unspecified.
-    pub fn parse_next<F: ParseFilter + Drop, T: ParseTag<F> + Drop, B: ParseBlock<F> + Drop>(
+    pub fn parse_next<F: ParseFilter, T: ParseTag<F>, B: ParseBlock<F>>(
         &mut self,
         alloc: Global,
         language: &Language<F, T, B>,
@@ -146,7 +146,7 @@ impl<'a, 'n> TagBlock<'a, 'n> {
     /// Returns the nodes of all elements up to the end tag, which closes the block. A closed block has none.
     ///
     /// Fails with the first error, as `parse_next` does.
-    pub fn parse_all<F: ParseFilter + Drop, T: ParseTag<F> + Drop, B: ParseBlock<F> + Drop>(
+    pub fn parse_all<F: ParseFilter, T: ParseTag<F>, B: ParseBlock<F>>(
         &mut self,
         alloc: Global,
         language: &Language<F, T, B>,

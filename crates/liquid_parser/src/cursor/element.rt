@@ -97,7 +97,7 @@ impl<'a> Exp<'a> {
     /// Fails for a filter that the language doesn't have, and with the error of a filter. The first error from the left
     /// is returned.
     #[inline(always)]
-    pub fn parse<F: ParseFilter + Drop, T: ParseTag<F> + Drop, B: ParseBlock<F> + Drop>(
+    pub fn parse<F: ParseFilter, T: ParseTag<F>, B: ParseBlock<F>>(
         self,
         alloc: Global,
         language: &Language<F, T, B>,
@@ -162,7 +162,7 @@ impl<'a> BlockElement<'a> {
     ///
     /// Fails for an invalid element ("Invalid liquid"), and with the error of an expression or a tag. Then the place of
     /// the cursor is unspecified.
-    pub fn parse<F: ParseFilter + Drop, T: ParseTag<F> + Drop, B: ParseBlock<F> + Drop>(
+    pub fn parse<F: ParseFilter, T: ParseTag<F>, B: ParseBlock<F>>(
         self,
         alloc: Global,
         block: &mut TagBlock<'_, '_>,

@@ -93,7 +93,7 @@ impl<'a> Tag<'a> {
     ///
     /// Fails for a tag that the language doesn't have ("Unknown tag."), with the error of its plug-in, and with the
     /// first error in a block's body. Then the place of the cursor is unspecified.
-    pub fn parse<F: ParseFilter + Drop, T: ParseTag<F> + Drop, B: ParseBlock<F> + Drop>(
+    pub fn parse<F: ParseFilter, T: ParseTag<F>, B: ParseBlock<F>>(
         self,
         alloc: Global,
         block: &mut TagBlock<'_, '_>,

@@ -199,7 +199,7 @@ impl<'a> TagToken<'a> {
     /// Reads a chain. Its filters are made from left to right.
     ///
     /// A chain with a filter that the registry doesn't have, or that rejects its arguments, doesn't match.
-    pub fn expect_filter_chain<F: ParseFilter + Drop>(
+    pub fn expect_filter_chain<F: ParseFilter>(
         self,
         alloc: Global,
         filters: &PluginRegistry<F>,

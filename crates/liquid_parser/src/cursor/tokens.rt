@@ -141,7 +141,7 @@ impl<'a> TagTokenIter<'a> {
     /// Reads a chain. Its filters are made from left to right.
     ///
     /// A chain with a filter that the registry doesn't have, or that rejects its arguments, is an error, too.
-    pub fn next_filter_chain<F: ParseFilter + Drop>(
+    pub fn next_filter_chain<F: ParseFilter>(
         &mut self,
         alloc: Global,
         message: &str,

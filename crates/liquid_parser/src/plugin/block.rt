@@ -38,7 +38,7 @@ pub trait BlockReflection {
 }
 
 /// A block plug-in over the filters `F`.
-pub trait ParseBlock<F: ParseFilter>: BlockReflection {
+pub trait ParseBlock<F: ParseFilter>: BlockReflection + Drop {
     /// What the block plans while its body is read.
     type Plan: Meant + Drop;
 

@@ -35,7 +35,7 @@ pub trait TagReflection {
 }
 
 /// A tag plug-in over the filters `F`.
-pub trait ParseTag<F: ParseFilter>: TagReflection {
+pub trait ParseTag<F: ParseFilter>: TagReflection + Drop {
     /// What the tag's tokens are made into.
     type Node: Meant + Drop;
 

@@ -21,13 +21,7 @@ use std::alloc::Global;
 ///
 /// This many blocks are open around everything that is read. The rest after the element is text of the source.
 #[inline(always)]
-pub(crate) fn advance<
-    'a,
-    't,
-    F: ParseFilter + Drop,
-    T: ParseTag<F> + Drop,
-    B: ParseBlock<F> + Drop,
->(
+pub(crate) fn advance<'a, 't, F: ParseFilter, T: ParseTag<F>, B: ParseBlock<F>>(
     alloc: Global,
     outside: usize,
     source: &str,
@@ -48,7 +42,7 @@ pub(crate) fn advance<
 
 /// Reads an element.
 #[inline(always)]
-fn read_element<'a, F: ParseFilter + Drop, T: ParseTag<F> + Drop, B: ParseBlock<F> + Drop>(
+fn read_element<'a, F: ParseFilter, T: ParseTag<F>, B: ParseBlock<F>>(
     alloc: Global,
     outside: usize,
     state: &mut ParserState<'a, B, B::Plan, Node<F::Filter, T::Node, B::Node>>,
@@ -71,7 +65,7 @@ fn read_element<'a, F: ParseFilter + Drop, T: ParseTag<F> + Drop, B: ParseBlock<
 
 /// Reads an expression.
 #[inline(always)]
-fn read_expression<'a, F: ParseFilter + Drop, T: ParseTag<F> + Drop, B: ParseBlock<F> + Drop>(
+fn read_expression<'a, F: ParseFilter, T: ParseTag<F>, B: ParseBlock<F>>(
     alloc: Global,
     state: &mut ParserState<'a, B, B::Plan, Node<F::Filter, T::Node, B::Node>>,
     exp: Exp<'_>,

@@ -22,13 +22,7 @@ use std::alloc::Global;
 pub(crate) const AROUND: usize = 1;
 
 /// Reads what follows a tag, until no block is open.
-pub(crate) fn read_after_tag<
-    'a,
-    't: 'a,
-    F: ParseFilter + Drop,
-    T: ParseTag<F> + Drop,
-    B: ParseBlock<F> + Drop,
->(
+pub(crate) fn read_after_tag<'a, 't: 'a, F: ParseFilter, T: ParseTag<F>, B: ParseBlock<F>>(
     alloc: Global,
     source: &'t str,
     text: &'t str,
@@ -51,13 +45,7 @@ pub(crate) fn read_after_tag<
 }
 
 /// Reads the text until no block is open. Returns the nodes then, and what follows.
-fn read_until_closed<
-    'a,
-    't: 'a,
-    F: ParseFilter + Drop,
-    T: ParseTag<F> + Drop,
-    B: ParseBlock<F> + Drop,
->(
+fn read_until_closed<'a, 't: 'a, F: ParseFilter, T: ParseTag<F>, B: ParseBlock<F>>(
     alloc: Global,
     source: &'t str,
     text: &'t str,

@@ -27,7 +27,7 @@ pub const BLOCK_LIMIT: usize = 100;
 /// these that it is.
 ///
 /// This many blocks are open around everything that is read.
-pub(crate) fn dispatch<'a, F: ParseFilter + Drop, T: ParseTag<F> + Drop, B: ParseBlock<F> + Drop>(
+pub(crate) fn dispatch<'a, F: ParseFilter, T: ParseTag<F>, B: ParseBlock<F>>(
     alloc: Global,
     outside: usize,
     state: &mut ParserState<'a, B, B::Plan, Node<F::Filter, T::Node, B::Node>>,
@@ -51,7 +51,7 @@ pub(crate) fn dispatch<'a, F: ParseFilter + Drop, T: ParseTag<F> + Drop, B: Pars
 }
 
 /// Ends the innermost block. The nodes so far are its last part, and it becomes a node of the list that it is in.
-fn end_block<'a, F: ParseFilter + Drop, T: ParseTag<F> + Drop, B: ParseBlock<F> + Drop>(
+fn end_block<'a, F: ParseFilter, T: ParseTag<F>, B: ParseBlock<F>>(
     alloc: Global,
     state: &mut ParserState<'a, B, B::Plan, Node<F::Filter, T::Node, B::Node>>,
     tag: Tag<'a>,
@@ -70,7 +70,7 @@ fn end_block<'a, F: ParseFilter + Drop, T: ParseTag<F> + Drop, B: ParseBlock<F> 
 }
 
 /// Ends a part of the innermost block. The nodes so far are that part. The block stays where it is.
-fn end_part<'a, F: ParseFilter + Drop, T: ParseTag<F> + Drop, B: ParseBlock<F> + Drop>(
+fn end_part<'a, F: ParseFilter, T: ParseTag<F>, B: ParseBlock<F>>(
     alloc: Global,
     state: &mut ParserState<'a, B, B::Plan, Node<F::Filter, T::Node, B::Node>>,
     tag: Tag<'a>,
@@ -89,7 +89,7 @@ fn end_part<'a, F: ParseFilter + Drop, T: ParseTag<F> + Drop, B: ParseBlock<F> +
 }
 
 /// Reads a tag of the language, otherwise a block of it. Anything else is an error.
-fn dispatch_outside<'a, F: ParseFilter + Drop, T: ParseTag<F> + Drop, B: ParseBlock<F> + Drop>(
+fn dispatch_outside<'a, F: ParseFilter, T: ParseTag<F>, B: ParseBlock<F>>(
     alloc: Global,
     outside: usize,
     state: &mut ParserState<'a, B, B::Plan, Node<F::Filter, T::Node, B::Node>>,
@@ -113,7 +113,7 @@ fn dispatch_outside<'a, F: ParseFilter + Drop, T: ParseTag<F> + Drop, B: ParseBl
 }
 
 /// Begins a block after the nodes so far, unless too many are open.
-fn open_block<'a, F: ParseFilter + Drop, T: ParseTag<F> + Drop, B: ParseBlock<F> + Drop>(
+fn open_block<'a, F: ParseFilter, T: ParseTag<F>, B: ParseBlock<F>>(
     alloc: Global,
     outside: usize,
     kind: &'a B,
@@ -137,7 +137,7 @@ fn open_block<'a, F: ParseFilter + Drop, T: ParseTag<F> + Drop, B: ParseBlock<F>
 }
 
 /// Returns the error for a tag that the language has neither as a tag nor as a block.
-fn unknown_tag_error<F: ParseFilter + Drop, T: ParseTag<F> + Drop, B: ParseBlock<F> + Drop>(
+fn unknown_tag_error<F: ParseFilter, T: ParseTag<F>, B: ParseBlock<F>>(
     alloc: Global,
     tag: Tag<'_>,
     language: &Language<F, T, B>,

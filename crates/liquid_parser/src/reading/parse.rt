@@ -27,7 +27,7 @@ use std::alloc::Global;
 /// Fails with the first error, from left to right: what is neither text nor expression nor tag ("Invalid liquid"), a
 /// block without its end, an unknown tag or filter, a number that is not an integer of 64 bits, a token that
 /// nothing expects, brackets or blocks more than a hundred deep, and the error of a plug-in.
-pub fn parse<F: ParseFilter + Drop, T: ParseTag<F> + Drop, B: ParseBlock<F> + Drop>(
+pub fn parse<F: ParseFilter, T: ParseTag<F>, B: ParseBlock<F>>(
     alloc: Global,
     text: &str,
     language: &Language<F, T, B>,
@@ -42,13 +42,11 @@ pub fn parse<F: ParseFilter + Drop, T: ParseTag<F> + Drop, B: ParseBlock<F> + Dr
 }
 
 /// Each text is parsed with exactly one result.
-pub fn one_reading<F: ParseFilter + Drop, T: ParseTag<F> + Drop, B: ParseBlock<F> + Drop>(
-    language: &Language<F, T, B>,
-)
+pub fn one_reading<F: ParseFilter, T: ParseTag<F>, B: ParseBlock<F>>(language: &Language<F, T, B>)
     ensures { OneReading (language_of F.makes T.gives B.block language.now) }
 {}
 
-fn read_nodes<'a, F: ParseFilter + Drop, T: ParseTag<F> + Drop, B: ParseBlock<F> + Drop>(
+fn read_nodes<'a, F: ParseFilter, T: ParseTag<F>, B: ParseBlock<F>>(
     alloc: Global,
     text: &'a str,
     language: &'a Language<F, T, B>,
@@ -80,12 +78,7 @@ fn read_nodes<'a, F: ParseFilter + Drop, T: ParseTag<F> + Drop, B: ParseBlock<F>
 }
 
 /// Returns the nodes of a text that is read to its end.
-pub(crate) fn end_reading<
-    'a,
-    F: ParseFilter + Drop,
-    T: ParseTag<F> + Drop,
-    B: ParseBlock<F> + Drop,
->(
+pub(crate) fn end_reading<'a, F: ParseFilter, T: ParseTag<F>, B: ParseBlock<F>>(
     alloc: Global,
     source: &str,
     state: ParserState<'a, B, B::Plan, Node<F::Filter, T::Node, B::Node>>,

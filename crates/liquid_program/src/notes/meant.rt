@@ -11,7 +11,7 @@ use std::alloc::AllocError;
 impl Notes<'_> {
     /// Offers the names of plug-ins that may be meant, and says which block is open where an end is missing, or where one
     /// is too many.
-    pub(crate) fn add_plugins<F: ParseFilter, T: TagReflection + Drop, B: ParseBlock<F> + Drop>(
+    pub(crate) fn add_plugins<F: ParseFilter, T: TagReflection + Drop, B: ParseBlock<F>>(
         &mut self,
         text: &str,
         place: usize,
@@ -38,7 +38,7 @@ impl Notes<'_> {
     }
 
     /// Offers the names of tags and blocks, and those that the open block has inside it.
-    fn offer_tags<F: ParseFilter, T: TagReflection + Drop, B: ParseBlock<F> + Drop>(
+    fn offer_tags<F: ParseFilter, T: TagReflection + Drop, B: ParseBlock<F>>(
         &mut self,
         open: &Option<OpenBlock<'_, B>>,
         language: &Language<F, T, B>,
@@ -96,7 +96,7 @@ impl Notes<'_> {
     }
 
     /// Adds the names that may be meant.
-    pub(crate) fn add_names<F: ParseFilter, T: TagReflection + Drop, B: ParseBlock<F> + Drop>(
+    pub(crate) fn add_names<F: ParseFilter, T: TagReflection + Drop, B: ParseBlock<F>>(
         &mut self,
         language: &Language<F, T, B>,
     ) -> Result<(), AllocError> {

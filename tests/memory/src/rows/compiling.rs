@@ -41,9 +41,9 @@ fn run<C, F, T, B>(
     boxes: usize,
 ) -> Result<Run, Problem>
 where
-    F: ParseFilter + Drop,
-    T: ParseTag<F> + Drop,
-    B: ParseBlock<F> + Drop,
+    F: ParseFilter,
+    T: ParseTag<F>,
+    B: ParseBlock<F>,
     T::Node: Renderable<()>,
     B::Node: Renderable<()>,
     C: PartialCompiler<F, T, B> + Drop,
@@ -69,9 +69,9 @@ pub fn compiled<C, F, T, B>(
     boxes: usize,
 ) -> Result<Seen, Problem>
 where
-    F: ParseFilter + Drop,
-    T: ParseTag<F> + Drop,
-    B: ParseBlock<F> + Drop,
+    F: ParseFilter,
+    T: ParseTag<F>,
+    B: ParseBlock<F>,
     T::Node: Renderable<()>,
     B::Node: Renderable<()>,
     C: PartialCompiler<F, T, B> + OfSource + Drop,

@@ -68,9 +68,9 @@ pub fn leaked<F, T, B>(
     boxes: usize,
 ) -> Result<Seen, Problem>
 where
-    F: ParseFilter + Drop,
-    T: ParseTag<F> + Drop,
-    B: ParseBlock<F> + Drop,
+    F: ParseFilter,
+    T: ParseTag<F>,
+    B: ParseBlock<F>,
     T::Node: Renderable<()>,
     B::Node: Renderable<()>,
 {

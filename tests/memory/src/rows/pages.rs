@@ -21,9 +21,9 @@ pub fn page<F, T, B>(
     language: &Language<F, T, B>,
 ) -> Result<Page<F, T, B>, Problem>
 where
-    F: ParseFilter + Drop,
-    T: ParseTag<F> + Drop,
-    B: ParseBlock<F> + Drop,
+    F: ParseFilter,
+    T: ParseTag<F>,
+    B: ParseBlock<F>,
 {
     match parse(alloc, row.template(), language) {
         Ok(nodes) => Ok(Template::new(nodes)),

@@ -23,9 +23,9 @@ fn page_verdict<C, F, T, B>(
     page: &Page<F, T, B>,
 ) -> Result<Verdict, Problem>
 where
-    F: ParseFilter + Drop,
-    T: ParseTag<F> + Drop,
-    B: ParseBlock<F> + Drop,
+    F: ParseFilter,
+    T: ParseTag<F>,
+    B: ParseBlock<F>,
     T::Node: Renderable<()>,
     B::Node: Renderable<()>,
     C: PartialCompiler<F, T, B> + OfSource + Drop,
@@ -49,9 +49,9 @@ fn read_verdict<C, F, T, B>(
     read: Result<Nodes<F, T, B>, Error>,
 ) -> Result<Verdict, Problem>
 where
-    F: ParseFilter + Drop,
-    T: ParseTag<F> + Drop,
-    B: ParseBlock<F> + Drop,
+    F: ParseFilter,
+    T: ParseTag<F>,
+    B: ParseBlock<F>,
     T::Node: Renderable<()>,
     B::Node: Renderable<()>,
     C: PartialCompiler<F, T, B> + OfSource + Drop,
@@ -81,9 +81,9 @@ fn run<C, F, T, B>(
     boxes: usize,
 ) -> Result<Run, Problem>
 where
-    F: ParseFilter + Drop,
-    T: ParseTag<F> + Drop,
-    B: ParseBlock<F> + Drop,
+    F: ParseFilter,
+    T: ParseTag<F>,
+    B: ParseBlock<F>,
     T::Node: Renderable<()>,
     B::Node: Renderable<()>,
     C: PartialCompiler<F, T, B> + OfSource + Drop,
@@ -108,9 +108,9 @@ pub fn parsed<C, F, T, B>(
     boxes: usize,
 ) -> Result<Seen, Problem>
 where
-    F: ParseFilter + Drop,
-    T: ParseTag<F> + Drop,
-    B: ParseBlock<F> + Drop,
+    F: ParseFilter,
+    T: ParseTag<F>,
+    B: ParseBlock<F>,
     T::Node: Renderable<()>,
     B::Node: Renderable<()>,
     C: PartialCompiler<F, T, B> + OfSource + Drop,

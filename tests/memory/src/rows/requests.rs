@@ -18,9 +18,9 @@ pub trait Keeping {
 
 impl<F, T, B> Keeping for EagerStore<InMemorySource, F, T, B>
 where
-    F: ParseFilter + Drop,
-    T: ParseTag<F> + Drop,
-    B: ParseBlock<F> + Drop,
+    F: ParseFilter,
+    T: ParseTag<F>,
+    B: ParseBlock<F>,
 {
     fn keeps(&self, _name: &str) -> Option<bool> {
         None
@@ -35,9 +35,9 @@ impl<F, T, B> Keeping for OnDemandStore<InMemorySource, F, T, B> {
 
 impl<F, T, B> Keeping for LazyStore<InMemorySource, F, T, B>
 where
-    F: ParseFilter + Drop,
-    T: ParseTag<F> + Drop,
-    B: ParseBlock<F> + Drop,
+    F: ParseFilter,
+    T: ParseTag<F>,
+    B: ParseBlock<F>,
 {
     fn keeps(&self, name: &str) -> Option<bool> {
         Some(self.is_kept(name))
@@ -196,9 +196,9 @@ pub fn requested<C, F, T, B>(
     boxes: usize,
 ) -> Result<Seen, Problem>
 where
-    F: ParseFilter + Drop,
-    T: ParseTag<F> + Drop,
-    B: ParseBlock<F> + Drop,
+    F: ParseFilter,
+    T: ParseTag<F>,
+    B: ParseBlock<F>,
     T::Node: Renderable<()>,
     B::Node: Renderable<()>,
     C: PartialCompiler<F, T, B> + OfSource + Drop,

@@ -50,9 +50,9 @@ pub fn store<C, F, T, B>(
     language: &Rc<Language<F, T, B>>,
 ) -> Result<C::Store, Problem>
 where
-    F: ParseFilter + Drop,
-    T: ParseTag<F> + Drop,
-    B: ParseBlock<F> + Drop,
+    F: ParseFilter,
+    T: ParseTag<F>,
+    B: ParseBlock<F>,
     C: PartialCompiler<F, T, B> + OfSource + Drop,
 {
     let compiler: C = compiler(alloc, row)?;
