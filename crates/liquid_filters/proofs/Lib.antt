@@ -5,7 +5,6 @@ pub mod Results
 pub mod OwnItems
 pub mod SliceLemmas
 pub mod FirstWords
-pub mod DivisionLemmas
 pub mod RoundingLemmas
 pub mod NearestLemmas
 pub mod ListSteps

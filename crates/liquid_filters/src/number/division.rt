@@ -1,7 +1,7 @@
 //! Division that rounds down.
 ghost use Rattle.std.specs.Prelude.{◌≡◌, ◌≢◌, pos};
 ghost use Rattle.liquid_filters.specs.meaning.value.Numbers.{fits};
-ghost use Rattle.liquid_filters.specs.meaning.number.Division.{floor_quotient, floor_remainder};
+ghost use Rattle.liquid_decimals.specs.meaning.Arithmetic.{floor_quotient, floor_remainder};
 
 /// Returns the quotient rounded down.
 pub(crate) fn floor_quotient(dividend: i64, divisor: i64) -> i128

@@ -1,6 +1,6 @@
 //! Consequences of what the filters mean, a function for each. Its body is empty, and its contract is the law.
 ghost use Rattle.std.specs.Prelude.{◌≡◌, ◌≢◌, ◌+ℤ◌, ◌*ℤ◌, ◌^◌, negsuc, pos, suc};
-ghost use Rattle.liquid_filters.specs.meaning.number.Division.{floor_quotient, floor_remainder};
+ghost use Rattle.liquid_decimals.specs.meaning.Arithmetic.{floor_quotient, floor_remainder};
 ghost use Rattle.liquid_filters.specs.meaning.number.Rounding.{rounded};
 ghost use Rattle.liquid_filters.specs.laws.number.Division.{IsRest};
 ghost use Rattle.liquid_filters.specs.laws.number.Rounding.{IsNearestMultiple};

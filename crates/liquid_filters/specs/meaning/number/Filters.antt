@@ -30,7 +30,7 @@ use Rattle.liquid_filters.specs.meaning.value.Decimals.{decimal, decimal_tree, i
 use Rattle.liquid_filters.specs.meaning.value.Errors.{divided_by_zero, unexpected_arguments}
 use Rattle.liquid_filters.specs.meaning.value.Numbers.{fits, limited, number}
 use Rattle.liquid_filters.specs.meaning.number.Digits.{scale}
-use Rattle.liquid_filters.specs.meaning.number.Division.{floor_quotient, floor_remainder}
+use Rattle.liquid_decimals.specs.meaning.Arithmetic.{floor_quotient, floor_remainder}
 use Rattle.liquid_filters.specs.meaning.number.Rounding.{rounded}
 
 -- the numbers of the input and of the one argument
