@@ -10,6 +10,7 @@ pub mod request;
 pub mod rewriting;
 pub mod run;
 mod shared;
+pub mod uses;
 mod warnings;
 pub mod words;
 
@@ -20,4 +21,5 @@ pub use request::Request;
 pub use rewriting::{AsItIs, FromJekyll, Rewrite};
 pub use run::{Outcome, run_page};
 pub use shared::SharedSource;
+pub use uses::{Place, Uses};
 pub use words::{NoRequest, Task, read_render_words, read_words};

@@ -1,8 +1,8 @@
 //! The warnings of `liquid check`.
 
+use crate::uses::Uses;
 use liquid_value::Object;
 use page_site::Partials;
-use page_uses::Uses;
 use std::io::Write;
 
 /// The names that loops, layouts and front matter give.

@@ -1,7 +1,7 @@
 //! What tags bind, and the partials that they name.
 
-use crate::names::is_key;
 use crate::uses::Uses;
+use crate::uses::names::is_key;
 use liquid_grammar::{Literal, TokenKind, TokenParts, match_identifier, next_token};
 use std::alloc::{AllocError, Global};
 

@@ -1,7 +1,7 @@
 use denote.Text.{Utf8}
 use denote.Shadow.{shadow}
 use Rattle.std.proofs.Common.{length}
-use Rattle.page_uses.proofs.tags.add_pairs.Given as goal
+use Rattle.liquid_page.proofs.uses.tags.add_pairs.Given as goal
 
 abbrev pub invariant-tokens : goal.invariant-tokens
 invariant-tokens l = shadow (Utf8 l.rest)

@@ -1,7 +1,7 @@
 use denote.Text.{Utf8}
 use denote.Shadow.{shadow}
 use Rattle.std.proofs.Common.{length}
-use Rattle.page_uses.proofs.names.add_names.Given as goal
+use Rattle.liquid_page.proofs.uses.names.add_names.Given as goal
 
 abbrev pub invariant-parts : goal.invariant-parts
 invariant-parts l = shadow (Utf8 l.rest)

@@ -1,9 +1,13 @@
-//! What texts use.
+//! What templates use: names, partials and dates, as they are found in their texts without rendering.
+mod dates;
+mod names;
+mod tags;
+
 ghost use Rattle.std.specs.Prelude.{◌≤◌, length};
 
-use crate::dates::add_date;
-use crate::names::add_names;
-use crate::tags::add_tag;
+use crate::uses::dates::add_date;
+use crate::uses::names::add_names;
+use crate::uses::tags::add_tag;
 use liquid_grammar::{Element, line_and_column, next_element};
 use liquid_value::Object;
 use std::alloc::{AllocError, Global};
