@@ -1,6 +1,7 @@
 -- The parts of a name, one after another, and where a name ends.
 use Rattle.std.proofs.Common.{◌≡◌, ◌≢◌, ℕ, zero, suc, ◌+◌, ◌-◌, ◌<◌, ◌≤◌, Bool, true, false, cond, not, List, [], ◌∷◌, ◌++◌}
-use Rattle.std.proofs.Common.{Option, Some, None, length, take, drop, get_or, codes, refl, sym, ap, subst, ◌∙◌, arith, append_assoc, drop_of_length-le, ◌&&◌}
+use Rattle.std.proofs.Common.{Option, Some, None, length, take, drop, get_or, codes, refl}
+use Rattle.std.proofs.Common.{sym, ap, subst, ◌∙◌, arith, append_assoc, drop_of_length-le, ◌&&◌}
 use Rattle.std.specs.Option.{option_and_then, option_map, option_map_or, unwrap_or}
 use Rattle.std.specs.List.{starts_with}
 use Rattle.std.specs.Prelude.{nat_eq}

@@ -1,5 +1,6 @@
 -- The partials of a folder, one after another.
-use Rattle.std.proofs.Common.{◌≡◌, ◌∙◌, ℕ, List, [], ◌∷◌, Bool, true, false, cond, Option, None, Some, Result, Ok, Err, IfOk, String, Global, BTreeMap, string_bytes, refl, sym, ap}
+use Rattle.std.proofs.Common.{◌≡◌, ◌∙◌, ℕ, List, [], ◌∷◌, Bool, true, false, cond, Option, None}
+use Rattle.std.proofs.Common.{Some, Result, Ok, Err, IfOk, String, Global, BTreeMap, string_bytes, refl, sym, ap}
 use Rattle.std.specs.Prelude.{option_map, if◌then◌else◌}
 use Rattle.std.specs.BTreeMap.{Updates, get_by_text}
 use Rattle.std.specs.Option.{option_or}

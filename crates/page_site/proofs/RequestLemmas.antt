@@ -1,5 +1,6 @@
 -- Requests, one after another.
-use Rattle.std.proofs.Common.{◌≡◌, ◌∙◌, List, [], ◌∷◌, ◌++◌, Bool, true, false, None, Some, refl, sym, ap, append_assoc, append-nil, true≢false}
+use Rattle.std.proofs.Common.{◌≡◌, ◌∙◌, List, [], ◌∷◌, ◌++◌, Bool, true, false}
+use Rattle.std.proofs.Common.{None, Some, refl, sym, ap, append_assoc, append-nil, true≢false}
 use Rattle.liquid_files.specs.meaning.Files.{Request, Requests, also}
 use Rattle.page_site.specs.meaning.Requested.{Follows}
 

@@ -11,6 +11,7 @@ mod isolated_rows;
 mod library_rows;
 mod own_tag_rows;
 mod page_faults;
+mod page_rows;
 mod parents;
 mod reflections;
 mod same_value_rows;

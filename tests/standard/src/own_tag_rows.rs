@@ -1,12 +1,11 @@
 //! Pages of the standard language with a tag of a host's own.
-use crate::sources::is_whole;
-use crate::tag_rows::globals_of;
+use crate::page_rows::{globals_of, row_writes};
 use liquid_beside::language_beside;
 use liquid_core::parser::{NoPlugin, PluginRegistry};
 use liquid_core::partials::InMemorySource;
 use liquid_core::{Error, TextSink, render_page_in};
 use liquid_std::marks::Marks;
-use rows::{Line, holds, rows_hold};
+use rows::{holds, rows_hold};
 use std::alloc::Global;
 use std::test::Fail;
 use test_calls::Link;
@@ -23,21 +22,6 @@ fn render(alloc: Global, text: &str, globals: &str, sink: &mut TextSink) -> Resu
     render_page_in::<Marks, _, _, _, _, _>(alloc, text, language, globals, partials, sink)
 }
 
-/// Returns `true` if this is what a text writes over these globals, and then its error, if there is one.
-fn writes(alloc: Global, text: &str, globals: &str, wanted: &str) -> bool {
-    let mut sink = TextSink::new(alloc);
-    let answer = render(alloc, text, globals, &mut sink);
-    is_whole(alloc, sink, answer, wanted)
-}
-
-/// Returns `true` if a row's text writes what the row says.
-fn row_holds(alloc: Global, row: &Line) -> bool {
-    match (row.text(0), row.text(1), row.text(2)) {
-        (Some(text), Some(globals), Some(wanted)) => writes(alloc, text, globals, wanted),
-        _ => false,
-    }
-}
-
 /// A text, its globals, and what it writes.
 static ROWS: &str = r#"["{% link '/a' %}{% link x, title: 'b' %}", "{\"x\": 1}", "</a|><1|b>"]
 ["{% for i in (1..3) %}{% cycle 'a', 'b' %}{% link i %}{% endfor %}", "{}", "a<1|>b<2|>a<3|>"]
@@ -47,6 +31,10 @@ static ROWS: &str = r#"["{% link '/a' %}{% link x, title: 'b' %}", "{\"x\": 1}",
 
 #[test]
 fn rows_of_an_own_tag(rt: HostRuntime) -> Result<(), Fail> {
-    rows_hold(rt.alloc(), ROWS, row_holds)?;
+    rows_hold(
+        rt.alloc(),
+        ROWS,
+        |alloc, row| row_writes(alloc, row, render),
+    )?;
     holds(ROWS.lines().count() == 5, "a table has all its rows")
 }

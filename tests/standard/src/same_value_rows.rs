@@ -1,6 +1,5 @@
 //! Pages of the standard tags and blocks, where conditions compare by the same value and loops go over texts.
-use crate::sources::is_whole;
-use crate::tag_rows::globals_of;
+use crate::page_rows::{globals_of, row_writes};
 use liquid_core::parser::{Language, PluginRegistry};
 use liquid_core::partials::InMemorySource;
 use liquid_core::{Error, NoPlugin, TextSink, render_page_in};
@@ -8,7 +7,7 @@ use liquid_std::conditions::Equality;
 use liquid_std::iteration::OverScalar;
 use liquid_std::marks::Marks;
 use liquid_std::{StdBlocks, StdTags, language};
-use rows::{Line, rows_hold};
+use rows::rows_hold;
 use std::alloc::{AllocError, Global};
 use std::test::Fail;
 
@@ -54,19 +53,11 @@ fn render(alloc: Global, text: &str, globals: &str, sink: &mut TextSink) -> Resu
     )
 }
 
-/// Returns `true` if a row's text writes what the row says, and then its error, if there is one.
-fn row_holds(alloc: Global, row: &Line) -> bool {
-    match (row.text(0), row.text(1), row.text(2)) {
-        (Some(text), Some(globals), Some(wanted)) => {
-            let mut sink = TextSink::new(alloc);
-            let answer = render(alloc, text, globals, &mut sink);
-            is_whole(alloc, sink, answer, wanted)
-        }
-        _ => false,
-    }
-}
-
 #[test]
 fn same_values_and_loops_over_texts(rt: HostRuntime) -> Result<(), Fail> {
-    rows_hold(rt.alloc(), ROWS, row_holds)
+    rows_hold(
+        rt.alloc(),
+        ROWS,
+        |alloc, row| row_writes(alloc, row, render),
+    )
 }

@@ -1,53 +1,7 @@
 //! Pages of the standard tags and blocks.
-use crate::sources::{add, is_whole};
-use liquid_core::model::{Object, object_from_str};
-use liquid_core::parser::PluginRegistry;
-use liquid_core::partials::InMemorySource;
-use liquid_core::{Error, NoPlugin, TextSink};
-use liquid_std::render_page;
-use rows::{Line, holds, rows_hold};
-use std::alloc::{AllocError, Global};
+use crate::page_rows::{render_standard, row_writes};
+use rows::{holds, rows_hold};
 use std::test::Fail;
-
-/// Returns the globals of a text of JSON.
-pub(crate) fn globals_of(alloc: Global, globals: &str) -> Result<Object, Error> {
-    match object_from_str(alloc, globals) {
-        Ok(globals) => globals,
-        Err(_) => Err(Error::with_msg(alloc, "no globals")),
-    }
-}
-
-/// Returns the partials of each row.
-fn partials(alloc: Global) -> Result<InMemorySource, AllocError> {
-    let mut partials = InMemorySource::new(alloc);
-    for (name, text) in PARTIALS {
-        add(alloc, &mut partials, name, text)?;
-    }
-    Ok(partials)
-}
-
-/// Renders a text over these globals, without filters.
-fn render(alloc: Global, text: &str, globals: &str, sink: &mut TextSink) -> Result<(), Error> {
-    let globals = globals_of(alloc, globals)?;
-    let partials = partials(alloc)?;
-    let filters: PluginRegistry<NoPlugin> = PluginRegistry::new(alloc);
-    render_page(alloc, text, globals, partials, filters, sink)
-}
-
-/// Returns `true` if this is what a text writes over these globals, and then its error, if there is one.
-fn writes(alloc: Global, text: &str, globals: &str, wanted: &str) -> bool {
-    let mut sink = TextSink::new(alloc);
-    let answer = render(alloc, text, globals, &mut sink);
-    is_whole(alloc, sink, answer, wanted)
-}
-
-/// Returns `true` if a row's text writes what the row says.
-fn row_holds(alloc: Global, row: &Line) -> bool {
-    match (row.text(0), row.text(1), row.text(2)) {
-        (Some(text), Some(globals), Some(wanted)) => writes(alloc, text, globals, wanted),
-        _ => false,
-    }
-}
 
 /// A name and a text for each partial.
 const PARTIALS: [(&str, &str); 2] = [
@@ -128,6 +82,10 @@ static ROWS: &str =
 
 #[test]
 fn rows_of_pages(rt: HostRuntime) -> Result<(), Fail> {
-    rows_hold(rt.alloc(), ROWS, row_holds)?;
+    rows_hold(rt.alloc(), ROWS, |alloc, row| {
+        row_writes(alloc, row, |alloc, text, globals, sink| {
+            render_standard(alloc, text, globals, &PARTIALS, sink)
+        })
+    })?;
     holds(ROWS.lines().count() == 68, "a table has all its rows")
 }

@@ -1,6 +1,6 @@
 //! Pages from texts, and from templates that were read before, with options.
+use crate::page_rows::globals_of;
 use crate::sources::{add, is_whole};
-use crate::tag_rows::globals_of;
 use liquid_core::parser::{Language, PluginRegistry};
 use liquid_core::partials::InMemorySource;
 use liquid_core::{Error, NoPlugin, Object, TextSink};

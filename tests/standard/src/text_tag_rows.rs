@@ -1,11 +1,10 @@
 //! Pages of a tag that writes a text.
 
-use crate::sources::is_whole;
-use crate::tag_rows::globals_of;
+use crate::page_rows::{globals_of, row_writes};
 use liquid_core::parser::{Language, NoPlugin};
 use liquid_core::partials::InMemorySource;
 use liquid_core::{Error, TextSink, render_page_in};
-use rows::{Line, holds, rows_hold};
+use rows::{holds, rows_hold};
 use std::alloc::Global;
 use std::test::Fail;
 use test_calls::Link;
@@ -18,21 +17,6 @@ fn render(alloc: Global, text: &str, globals: &str, sink: &mut TextSink) -> Resu
     let globals = globals_of(alloc, globals)?;
     let partials = InMemorySource::new(alloc);
     render_page_in::<(), _, _, _, _, _>(alloc, text, language, globals, partials, sink)
-}
-
-/// Returns `true` if this is what a text writes over these globals, and then its error, if there is one.
-fn writes(alloc: Global, text: &str, globals: &str, wanted: &str) -> bool {
-    let mut sink = TextSink::new(alloc);
-    let answer = render(alloc, text, globals, &mut sink);
-    is_whole(alloc, sink, answer, wanted)
-}
-
-/// Returns `true` if a row's text writes what the row says.
-fn row_holds(alloc: Global, row: &Line) -> bool {
-    match (row.text(0), row.text(1), row.text(2)) {
-        (Some(text), Some(globals), Some(wanted)) => writes(alloc, text, globals, wanted),
-        _ => false,
-    }
 }
 
 /// A text, its globals, and what it writes.
@@ -52,6 +36,10 @@ static ROWS: &str = r#"["{% link '/a' %}{% link x.y %}", "{\"x\": {\"y\": [1, 2]
 
 #[test]
 fn rows_of_text_tags(rt: HostRuntime) -> Result<(), Fail> {
-    rows_hold(rt.alloc(), ROWS, row_holds)?;
+    rows_hold(
+        rt.alloc(),
+        ROWS,
+        |alloc, row| row_writes(alloc, row, render),
+    )?;
     holds(ROWS.lines().count() == 13, "a table has all its rows")
 }

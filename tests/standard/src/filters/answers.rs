@@ -9,17 +9,17 @@ use std::alloc::Global;
 
 /// A call of a filter, and what it should return.
 #[derive(Drop)]
-pub(crate) struct Call<'r> {
-    pub(crate) filter: &'r str,
-    pub(crate) input: Value,
-    pub(crate) arguments: Vec<ValueCow<'static>>,
+struct Call<'r> {
+    filter: &'r str,
+    input: Value,
+    arguments: Vec<ValueCow<'static>>,
     wanted: &'r str,
 }
 
 impl<'r> Call<'r> {
     /// Returns the call of a row: a filter, its input, its arguments, and the source of what it returns, or the text of
     /// its error. Returns `None` for a row without them, or if memory runs out.
-    pub(crate) fn of(alloc: Global, row: &'r Line) -> Option<Call<'r>> {
+    fn of(alloc: Global, row: &'r Line) -> Option<Call<'r>> {
         match (row.text(0), row.member(1), row.list(2), row.text(3)) {
             (Some(filter), Some(input), Some(arguments), Some(wanted)) => {
                 let input = to_value(alloc, input).ok()?;
@@ -35,11 +35,25 @@ impl<'r> Call<'r> {
     }
 
     /// Returns `true` if a filter's answer is what it should return.
-    pub(crate) fn returns(&self, alloc: Global, answer: Result<Value, Error>) -> bool {
+    fn returns(&self, alloc: Global, answer: Result<Value, Error>) -> bool {
         match answer {
             Ok(value) => is_text(ValueSource::new(&value).to_string(alloc), self.wanted),
             Err(error) => is_text(error.to_string(alloc), self.wanted),
         }
+    }
+}
+
+/// Returns `true` if a filter returns what its row says.
+pub(crate) fn is_answered<F>(alloc: Global, row: &Line, answered: F) -> bool
+where
+    F: Fn(Global, &str, &Value, &[ValueCow<'_>]) -> Result<Value, Error>,
+{
+    match Call::of(alloc, row) {
+        Some(call) => {
+            let answer = answered(alloc, call.filter, &call.input, call.arguments.as_slice());
+            call.returns(alloc, answer)
+        }
+        None => false,
     }
 }
 

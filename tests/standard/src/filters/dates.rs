@@ -1,9 +1,9 @@
 //! Rows of the filter `date`: what texts are read as.
-use super::answers::Call;
+use super::answers::is_answered;
 use liquid_error::Error;
 use liquid_filters::{CallArguments, FilterKind, StdKind, filters};
 use liquid_value::{Value, ValueCow};
-use rows::{Line, rows_hold};
+use rows::rows_hold;
 use std::alloc::Global;
 use std::test::Fail;
 
@@ -68,18 +68,11 @@ fn answer(
     kind.answer(alloc, input, &given)
 }
 
-/// Returns `true` if the filter returns what its row says.
-fn is_answered(alloc: Global, row: &Line) -> bool {
-    match Call::of(alloc, row) {
-        Some(call) => {
-            let answer = answered(alloc, call.filter, &call.input, call.arguments.as_slice());
-            call.returns(alloc, answer)
-        }
-        None => false,
-    }
-}
-
 #[test]
 fn dates_are_read(rt: HostRuntime) -> Result<(), Fail> {
-    rows_hold(rt.alloc(), ROWS, is_answered)
+    rows_hold(
+        rt.alloc(),
+        ROWS,
+        |alloc, row| is_answered(alloc, row, answered),
+    )
 }

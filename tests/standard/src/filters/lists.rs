@@ -1,12 +1,12 @@
 //! Rows of the filters on lists.
-use super::answers::Call;
+use super::answers::is_answered;
 use liquid_error::Error;
 use liquid_filters::list::choices::{compact, keep_where, map, uniq};
 use liquid_filters::list::lists::{concat, first, join, last, reverse};
 use liquid_filters::list::searches::{find, find_index, has, reject};
 use liquid_filters::list::sums::sum;
 use liquid_value::{Value, ValueCow};
-use rows::{Line, rows_hold};
+use rows::rows_hold;
 use std::alloc::Global;
 use std::test::Fail;
 
@@ -84,18 +84,11 @@ fn answered(
     }
 }
 
-/// Returns `true` if a filter returns what its row says.
-fn is_answered(alloc: Global, row: &Line) -> bool {
-    match Call::of(alloc, row) {
-        Some(call) => {
-            let answer = answered(alloc, call.filter, &call.input, call.arguments.as_slice());
-            call.returns(alloc, answer)
-        }
-        None => false,
-    }
-}
-
 #[test]
 fn lists_are_answered(rt: HostRuntime) -> Result<(), Fail> {
-    rows_hold(rt.alloc(), ROWS, is_answered)
+    rows_hold(
+        rt.alloc(),
+        ROWS,
+        |alloc, row| is_answered(alloc, row, answered),
+    )
 }

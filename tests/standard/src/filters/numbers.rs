@@ -1,5 +1,5 @@
 //! Rows of the filters on numbers.
-use super::answers::Call;
+use super::answers::is_answered;
 use liquid_decimals::Decimal;
 use liquid_error::Error;
 use liquid_filters::number::arithmetic::{
@@ -153,17 +153,6 @@ fn answered(
     }
 }
 
-/// Returns `true` if a filter returns what its row says.
-fn is_answered(alloc: Global, row: &Line) -> bool {
-    match Call::of(alloc, row) {
-        Some(call) => {
-            let answer = answered(alloc, call.filter, &call.input, call.arguments.as_slice());
-            call.returns(alloc, answer)
-        }
-        None => false,
-    }
-}
-
 /// Returns `true` if a mantissa and a power make the decimal that their row says.
 fn is_made(alloc: Global, row: &Line) -> bool {
     match (row.number(0), row.number(1), row.text(2)) {
@@ -182,7 +171,11 @@ fn powers_make_decimals(rt: HostRuntime) -> Result<(), Fail> {
 
 #[test]
 fn numbers_are_answered(rt: HostRuntime) -> Result<(), Fail> {
-    rows_hold(rt.alloc(), ROWS, is_answered)
+    rows_hold(
+        rt.alloc(),
+        ROWS,
+        |alloc, row| is_answered(alloc, row, answered),
+    )
 }
 
 #[test]

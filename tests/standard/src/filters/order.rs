@@ -1,10 +1,10 @@
 //! Rows of the filters that put a list in order.
-use super::answers::Call;
+use super::answers::is_answered;
 use liquid_error::Error;
 use liquid_filters::sort::numbers::sort_numeric;
 use liquid_filters::sort::order::{sort, sort_natural};
 use liquid_value::{Value, ValueCow};
-use rows::{Line, rows_hold};
+use rows::rows_hold;
 use std::alloc::Global;
 use std::test::Fail;
 
@@ -36,18 +36,11 @@ fn answered(
     }
 }
 
-/// Returns `true` if a filter returns what its row says.
-fn is_answered(alloc: Global, row: &Line) -> bool {
-    match Call::of(alloc, row) {
-        Some(call) => {
-            let answer = answered(alloc, call.filter, &call.input, call.arguments.as_slice());
-            call.returns(alloc, answer)
-        }
-        None => false,
-    }
-}
-
 #[test]
 fn lists_are_put_in_order(rt: HostRuntime) -> Result<(), Fail> {
-    rows_hold(rt.alloc(), ROWS, is_answered)
+    rows_hold(
+        rt.alloc(),
+        ROWS,
+        |alloc, row| is_answered(alloc, row, answered),
+    )
 }

@@ -1,5 +1,5 @@
 //! Rows of the filters on texts.
-use super::answers::Call;
+use super::answers::is_answered;
 use liquid_error::Error;
 use liquid_filters::string::{
     append, base64_decode, base64_encode, base64_url_safe_decode, base64_url_safe_encode,
@@ -8,7 +8,7 @@ use liquid_filters::string::{
     strip_html, strip_newlines, truncate, truncatewords, upcase, url_decode, url_encode,
 };
 use liquid_value::{Value, ValueCow};
-use rows::{Line, rows_hold};
+use rows::rows_hold;
 use std::alloc::Global;
 use std::test::Fail;
 
@@ -111,18 +111,11 @@ fn answered(
     }
 }
 
-/// Returns `true` if a filter returns what its row says.
-fn is_answered(alloc: Global, row: &Line) -> bool {
-    match Call::of(alloc, row) {
-        Some(call) => {
-            let answer = answered(alloc, call.filter, &call.input, call.arguments.as_slice());
-            call.returns(alloc, answer)
-        }
-        None => false,
-    }
-}
-
 #[test]
 fn texts_are_answered(rt: HostRuntime) -> Result<(), Fail> {
-    rows_hold(rt.alloc(), ROWS, is_answered)
+    rows_hold(
+        rt.alloc(),
+        ROWS,
+        |alloc, row| is_answered(alloc, row, answered),
+    )
 }
