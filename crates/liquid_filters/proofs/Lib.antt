@@ -10,7 +10,7 @@ pub mod NearestLemmas
 pub mod ListSteps
 pub mod DistinctLemmas
 pub mod LastLemmas
-pub mod DecimalSumLemmas
+pub mod Sums
 pub mod StableOrder
 pub mod KeyOrder
 pub mod NumberOrder

@@ -34,7 +34,7 @@ use Rattle.std.specs.Prelude.{slice_get, take, reverse, min}
 use Rattle.std.proofs.lemmas.List.{length-reverse, reverse-append, length-drop, length-take, take_min, drop-append-le}
 use Rattle.std.proofs.Math.Seq.{take-length}
 use Rattle.liquid_std.specs.meaning.iteration.Picked.{in_order, natural, picked}
-use Rattle.liquid_tags.proofs.ItemLemmas.{placed, rest_past}
+use Rattle.liquid_tags.proofs.Items.{placed, rest_past}
 
 -- what is at a place before an end
 taken_at : {A : Type 0} (xs : List A) (to at : ℕ) → at < to → slice_get (take to xs) at ≡ slice_get xs at

@@ -56,5 +56,5 @@ module _ {Reg F T P B Q N R : Type 0} (s : Setting Reg F T P B Q) (m : NodeMeani
   unfolding turns
   no_turn partials n parts progress v = refl
 
-  pub one_each_turn : OneEachTurn s m
-  one_each_turn = record { turn = one_turn; none = no_turn }
+  pub each_turn : OneEachTurn s m
+  each_turn = record { turn = one_turn; none = no_turn }

@@ -38,7 +38,7 @@ pub fn isolated_outsides_agree<V: Fresh, F, T, P, B, Q>()
 
 /// Each turn of a tag or a block has exactly one checkpoint of its own, and nothing else has one. Frames, traces
 /// and captures keep them. So a gate that lets `n` checkpoints pass lets `n` turns begin.
-#[tactic(auto, using(crate::proofs::Checkpoints::one_each_turn, crate::proofs::Checkpoints::none_elsewhere, crate::proofs::Checkpoints::kept))]
+#[tactic(auto, using(crate::proofs::Checkpoints::each_turn, crate::proofs::Checkpoints::none_elsewhere, crate::proofs::Checkpoints::kept))]
 pub fn checkpoints_count_turns<V: Fresh, F, T, P, B, Q, N, R>()
     ensures turns { (s : Setting V.Shape F T P B Q) (m : NodeMeaning N R V.Shape) → OneEachTurn s m }
     ensures elsewhere { NoneElsewhere V.Shape }

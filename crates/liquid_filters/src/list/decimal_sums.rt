@@ -49,7 +49,7 @@ fn sum_at(decimals: &[Decimal], scale: u32) -> Option<i64>
 }
 
 /// Returns the mantissa of the decimal with this number of digits after the point.
-#[tactic(auto, using(crate::proofs::DecimalSumLemmas::product_below, crate::proofs::DecimalSumLemmas::product_above))]
+#[tactic(auto, using(crate::proofs::Sums::product_below, crate::proofs::Sums::product_above))]
 fn mantissa_at(decimal: &Decimal, scale: u32) -> i128
     requires { scale ≤ 18 }
     ensures value { result ≡ mantissa_at scale (dec decimal.now) }
@@ -71,7 +71,7 @@ fn ten_to(power: u32) -> u64
 }
 
 /// Returns the parts of a number: the quotient by the bound of lower parts, rounded down, and the remainder.
-#[tactic(auto, using(crate::proofs::DecimalSumLemmas::parts_add_up, crate::proofs::DecimalSumLemmas::rest_above, crate::proofs::DecimalSumLemmas::rest_below))]
+#[tactic(auto, using(crate::proofs::Sums::parts_add_up, crate::proofs::Sums::rest_above, crate::proofs::Sums::rest_below))]
 fn parts(number: i128) -> (i128, i128)
     ensures sum { result.0 *ℤ pos (2 ^ 62) +ℤ result.1 ≡ number }
     ensures from { pos 0 ≤ℤ result.1 }

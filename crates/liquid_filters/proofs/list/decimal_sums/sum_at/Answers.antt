@@ -6,7 +6,7 @@ use Rattle.std.proofs.lemmas.List.{at_drop_all}
 use Rattle.liquid_decimals.specs.meaning.Dec.{dec}
 use Rattle.liquid_filters.specs.meaning.value.Numbers.{fits}
 use Rattle.liquid_filters.specs.meaning.list.DecimalSums.{sum_at}
-use Rattle.liquid_filters.proofs.DecimalSumLemmas.{parts_joined, parts_moved}
+use Rattle.liquid_filters.proofs.Sums.{parts_joined, parts_moved}
 use Rattle.liquid_paths.proofs.Turns.{map-drop}
 use Rattle.liquid_filters.proofs.list.decimal_sums.sum_at.Goals as goal
 
