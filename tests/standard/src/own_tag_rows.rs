@@ -1,11 +1,11 @@
 //! Pages of the standard language with a tag of a host's own.
-use crate::page_rows::{globals_of, row_writes};
+use crate::page_rows::{globals_of, rows_write};
 use liquid_beside::language_beside;
 use liquid_core::parser::{NoPlugin, PluginRegistry};
 use liquid_core::partials::InMemorySource;
 use liquid_core::{Error, TextSink, render_page_in};
 use liquid_std::marks::Marks;
-use rows::{holds, rows_hold};
+use rows::holds;
 use std::alloc::Global;
 use std::test::Fail;
 use test_calls::Link;
@@ -31,10 +31,6 @@ static ROWS: &str = r#"["{% link '/a' %}{% link x, title: 'b' %}", "{\"x\": 1}",
 
 #[test]
 fn rows_of_an_own_tag(rt: HostRuntime) -> Result<(), Fail> {
-    rows_hold(
-        rt.alloc(),
-        ROWS,
-        |alloc, row| row_writes(alloc, row, render),
-    )?;
+    rows_write(rt.alloc(), ROWS, render)?;
     holds(ROWS.lines().count() == 5, "a table has all its rows")
 }

@@ -5,8 +5,9 @@ use liquid_core::parser::PluginRegistry;
 use liquid_core::partials::InMemorySource;
 use liquid_core::{Error, NoPlugin, TextSink};
 use liquid_std::render_page;
-use rows::Line;
+use rows::{Line, rows_hold};
 use std::alloc::Global;
+use std::test::Fail;
 
 /// Returns the globals of a text of JSON.
 pub(crate) fn globals_of(alloc: Global, globals: &str) -> Result<Object, Error> {
@@ -33,8 +34,16 @@ pub(crate) fn render_standard(
     render_page(alloc, text, globals, source, filters, sink)
 }
 
-/// Returns `true` if what `render` writes is what a row says, and then its error, if there is one.
-pub(crate) fn row_writes<R>(alloc: Global, row: &Line, render: R) -> bool
+/// Fails for the first row for which `render` does not write what the row says, and then its error, if there is one.
+pub(crate) fn rows_write<R>(alloc: Global, rows: &str, render: R) -> Result<(), Fail>
+where
+    R: Fn(Global, &str, &str, &mut TextSink) -> Result<(), Error>,
+{
+    rows_hold(alloc, rows, |alloc, row| row_writes(alloc, row, &render))
+}
+
+/// Returns `true` if `render` writes what a row says, and then its error, if there is one.
+fn row_writes<R>(alloc: Global, row: &Line, render: &R) -> bool
 where
     R: Fn(Global, &str, &str, &mut TextSink) -> Result<(), Error>,
 {

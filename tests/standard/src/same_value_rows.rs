@@ -1,5 +1,5 @@
 //! Pages of the standard tags and blocks, where conditions compare by the same value and loops go over texts.
-use crate::page_rows::{globals_of, row_writes};
+use crate::page_rows::{globals_of, rows_write};
 use liquid_core::parser::{Language, PluginRegistry};
 use liquid_core::partials::InMemorySource;
 use liquid_core::{Error, NoPlugin, TextSink, render_page_in};
@@ -7,7 +7,6 @@ use liquid_std::conditions::Equality;
 use liquid_std::iteration::OverScalar;
 use liquid_std::marks::Marks;
 use liquid_std::{StdBlocks, StdTags, language};
-use rows::rows_hold;
 use std::alloc::{AllocError, Global};
 use std::test::Fail;
 
@@ -55,9 +54,5 @@ fn render(alloc: Global, text: &str, globals: &str, sink: &mut TextSink) -> Resu
 
 #[test]
 fn same_values_and_loops_over_texts(rt: HostRuntime) -> Result<(), Fail> {
-    rows_hold(
-        rt.alloc(),
-        ROWS,
-        |alloc, row| row_writes(alloc, row, render),
-    )
+    rows_write(rt.alloc(), ROWS, render)
 }

@@ -1,6 +1,6 @@
 //! Pages of the standard tags and blocks.
-use crate::page_rows::{render_standard, row_writes};
-use rows::{holds, rows_hold};
+use crate::page_rows::{render_standard, rows_write};
+use rows::holds;
 use std::test::Fail;
 
 /// A name and a text for each partial.
@@ -82,10 +82,8 @@ static ROWS: &str =
 
 #[test]
 fn rows_of_pages(rt: HostRuntime) -> Result<(), Fail> {
-    rows_hold(rt.alloc(), ROWS, |alloc, row| {
-        row_writes(alloc, row, |alloc, text, globals, sink| {
-            render_standard(alloc, text, globals, &PARTIALS, sink)
-        })
+    rows_write(rt.alloc(), ROWS, |alloc, text, globals, sink| {
+        render_standard(alloc, text, globals, &PARTIALS, sink)
     })?;
     holds(ROWS.lines().count() == 68, "a table has all its rows")
 }

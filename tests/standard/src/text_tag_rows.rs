@@ -1,10 +1,10 @@
 //! Pages of a tag that writes a text.
 
-use crate::page_rows::{globals_of, row_writes};
+use crate::page_rows::{globals_of, rows_write};
 use liquid_core::parser::{Language, NoPlugin};
 use liquid_core::partials::InMemorySource;
 use liquid_core::{Error, TextSink, render_page_in};
-use rows::{holds, rows_hold};
+use rows::holds;
 use std::alloc::Global;
 use std::test::Fail;
 use test_calls::Link;
@@ -36,10 +36,6 @@ static ROWS: &str = r#"["{% link '/a' %}{% link x.y %}", "{\"x\": {\"y\": [1, 2]
 
 #[test]
 fn rows_of_text_tags(rt: HostRuntime) -> Result<(), Fail> {
-    rows_hold(
-        rt.alloc(),
-        ROWS,
-        |alloc, row| row_writes(alloc, row, render),
-    )?;
+    rows_write(rt.alloc(), ROWS, render)?;
     holds(ROWS.lines().count() == 13, "a table has all its rows")
 }

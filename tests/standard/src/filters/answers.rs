@@ -3,9 +3,10 @@ use liquid_error::Error;
 use liquid_json::to_value;
 use liquid_value::render::ValueSource;
 use liquid_value::{Value, ValueCow};
-use rows::{Line, is_text};
+use rows::{Line, is_text, rows_hold};
 use serde_json::Value as Json;
 use std::alloc::Global;
+use std::test::Fail;
 
 /// A call of a filter, and what it should return.
 #[derive(Drop)]
@@ -43,8 +44,16 @@ impl<'r> Call<'r> {
     }
 }
 
+/// Fails for the first row whose filter does not return what the row says.
+pub(crate) fn are_answered<F>(alloc: Global, rows: &str, answered: F) -> Result<(), Fail>
+where
+    F: Fn(Global, &str, &Value, &[ValueCow<'_>]) -> Result<Value, Error>,
+{
+    rows_hold(alloc, rows, |alloc, row| is_answered(alloc, row, &answered))
+}
+
 /// Returns `true` if a filter returns what its row says.
-pub(crate) fn is_answered<F>(alloc: Global, row: &Line, answered: F) -> bool
+fn is_answered<F>(alloc: Global, row: &Line, answered: &F) -> bool
 where
     F: Fn(Global, &str, &Value, &[ValueCow<'_>]) -> Result<Value, Error>,
 {

@@ -1,9 +1,8 @@
 //! Rows of the filter `date`: what texts are read as.
-use super::answers::is_answered;
+use super::answers::are_answered;
 use liquid_error::Error;
 use liquid_filters::{CallArguments, FilterKind, StdKind, filters};
 use liquid_value::{Value, ValueCow};
-use rows::rows_hold;
 use std::alloc::Global;
 use std::test::Fail;
 
@@ -70,9 +69,5 @@ fn answer(
 
 #[test]
 fn dates_are_read(rt: HostRuntime) -> Result<(), Fail> {
-    rows_hold(
-        rt.alloc(),
-        ROWS,
-        |alloc, row| is_answered(alloc, row, answered),
-    )
+    are_answered(rt.alloc(), ROWS, answered)
 }

@@ -1,12 +1,11 @@
 //! Rows of the filters on lists.
-use super::answers::is_answered;
+use super::answers::are_answered;
 use liquid_error::Error;
 use liquid_filters::list::choices::{compact, keep_where, map, uniq};
 use liquid_filters::list::lists::{concat, first, join, last, reverse};
 use liquid_filters::list::searches::{find, find_index, has, reject};
 use liquid_filters::list::sums::sum;
 use liquid_value::{Value, ValueCow};
-use rows::rows_hold;
 use std::alloc::Global;
 use std::test::Fail;
 
@@ -86,9 +85,5 @@ fn answered(
 
 #[test]
 fn lists_are_answered(rt: HostRuntime) -> Result<(), Fail> {
-    rows_hold(
-        rt.alloc(),
-        ROWS,
-        |alloc, row| is_answered(alloc, row, answered),
-    )
+    are_answered(rt.alloc(), ROWS, answered)
 }

@@ -1,5 +1,5 @@
 //! Rows of the filters on numbers.
-use super::answers::is_answered;
+use super::answers::are_answered;
 use liquid_decimals::Decimal;
 use liquid_error::Error;
 use liquid_filters::number::arithmetic::{
@@ -171,14 +171,10 @@ fn powers_make_decimals(rt: HostRuntime) -> Result<(), Fail> {
 
 #[test]
 fn numbers_are_answered(rt: HostRuntime) -> Result<(), Fail> {
-    rows_hold(
-        rt.alloc(),
-        ROWS,
-        |alloc, row| is_answered(alloc, row, answered),
-    )
+    are_answered(rt.alloc(), ROWS, answered)
 }
 
 #[test]
 fn decimals_are_answered(rt: HostRuntime) -> Result<(), Fail> {
-    rows_hold(rt.alloc(), DECIMAL_ROWS, is_answered)
+    are_answered(rt.alloc(), DECIMAL_ROWS, answered)
 }

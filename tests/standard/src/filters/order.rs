@@ -1,10 +1,9 @@
 //! Rows of the filters that put a list in order.
-use super::answers::is_answered;
+use super::answers::are_answered;
 use liquid_error::Error;
 use liquid_filters::sort::numbers::sort_numeric;
 use liquid_filters::sort::order::{sort, sort_natural};
 use liquid_value::{Value, ValueCow};
-use rows::rows_hold;
 use std::alloc::Global;
 use std::test::Fail;
 
@@ -38,9 +37,5 @@ fn answered(
 
 #[test]
 fn lists_are_put_in_order(rt: HostRuntime) -> Result<(), Fail> {
-    rows_hold(
-        rt.alloc(),
-        ROWS,
-        |alloc, row| is_answered(alloc, row, answered),
-    )
+    are_answered(rt.alloc(), ROWS, answered)
 }

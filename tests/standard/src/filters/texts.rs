@@ -1,5 +1,5 @@
 //! Rows of the filters on texts.
-use super::answers::is_answered;
+use super::answers::are_answered;
 use liquid_error::Error;
 use liquid_filters::string::{
     append, base64_decode, base64_encode, base64_url_safe_decode, base64_url_safe_encode,
@@ -8,7 +8,6 @@ use liquid_filters::string::{
     strip_html, strip_newlines, truncate, truncatewords, upcase, url_decode, url_encode,
 };
 use liquid_value::{Value, ValueCow};
-use rows::rows_hold;
 use std::alloc::Global;
 use std::test::Fail;
 
@@ -113,9 +112,5 @@ fn answered(
 
 #[test]
 fn texts_are_answered(rt: HostRuntime) -> Result<(), Fail> {
-    rows_hold(
-        rt.alloc(),
-        ROWS,
-        |alloc, row| is_answered(alloc, row, answered),
-    )
+    are_answered(rt.alloc(), ROWS, answered)
 }
