@@ -8,6 +8,7 @@ use Rattle.liquid_grammar.specs.meaning.Cover.{Cover, Element, done, next, raw, 
 use Rattle.liquid_grammar.specs.meaning.Tokens as token
 use Rattle.liquid_grammar.specs.meaning.Tokens.{TagRule}
 use Rattle.liquid_grammar.proofs.CoverLemmas.{cover_of}
+use Rattle.liquid_parser.proofs.TokenLemmas.{if_some_weaker}
 use Rattle.liquid_parser.specs.declared.cursor.tag.Tag.{Tag}
 use Rattle.liquid_parser.specs.meaning.Handed.{Tokens, handed}
 use Rattle.liquid_parser.specs.meaning.Plugins.{AreTokens}
@@ -49,18 +50,14 @@ module _ (s : List ℕ) where
   IsRead (Ok tag) read = (ts : Tokens) × AreTokens tag.tokens ts × (read ≡ condition_given ts)
   IsRead (Err e) read = IfSome (told e) (λ r. read ≡ Err r)
 
-  if_some : {A : Type 0} {P Q : A → Type 0} (o : Option A) → ((x : A) → P x → Q x) → IfSome o P → IfSome o Q
-  if_some None f h = tt
-  if_some (Some x) f h = f x h
-
   read_by : (o : Option token.Tag) → Fits s o → (result : Result Tag Error) → ((t : token.Tag) → TagRule s [] t → GivesTag result s t)
       → (¬ (WholeTag s) → Refuses result (refused_at s (codes "Invalid liquid") s)) → IsRead result (read_as o)
   read_by (Some t) fit (Ok tag) gives none =
       let g = gives t fit in (handed s t, g.1.tokens_are, ap (λ r. ok_then r (λ _. condition_given (handed s t))) g.0)
   read_by (Some t) fit (Err e) gives none =
-      if_some (told e) (λ r q. ap (λ r. ok_then r (λ _. condition_given (handed s t))) q) (gives t fit)
+      if_some_weaker (told e) (λ r q. ap (λ r. ok_then r (λ _. condition_given (handed s t))) q) (gives t fit)
   read_by None fit (Ok tag) gives none = absurd (none fit)
-  read_by None fit (Err e) gives none = if_some (told e) (λ r q. ap (λ x. Err x) (sym q)) (none fit)
+  read_by None fit (Err e) gives none = if_some_weaker (told e) (λ r q. ap (λ x. Err x) (sym q)) (none fit)
 
   pub tag_is_read : (result : Result Tag Error) → ((t : token.Tag) → TagRule s [] t → GivesTag result s t)
       → (¬ (WholeTag s) → Refuses result (refused_at s (codes "Invalid liquid") s)) → IsRead result (tag_read s)

@@ -32,6 +32,7 @@ use Rattle.std.proofs.Common.{
 }
 use Rattle.std.specs.Prelude.{slice_get, take, reverse, min}
 use Rattle.std.proofs.lemmas.List.{length-reverse, reverse-append, length-drop, length-take, take_min, drop-append-le}
+use Rattle.std.proofs.Math.ListN.{drop_of_length-le}
 use Rattle.std.proofs.Math.Seq.{take-length}
 use Rattle.liquid_std.specs.meaning.iteration.Picked.{in_order, natural, picked}
 use Rattle.liquid_tags.proofs.Items.{placed, rest_past}
@@ -55,12 +56,6 @@ within [] at below = absurd (omega arith)
 within (x ∷ xs) zero below = (x, refl)
 within (x ∷ xs) (suc at) below = within xs at (omega arith)
 
-dropped_all : {A : Type 0} (xs : List A) (n : ℕ) → length xs ≤ n → drop n xs ≡ []
-dropped_all [] zero all = refl
-dropped_all [] (suc n) all = refl
-dropped_all (x ∷ xs) zero all = absurd (omega arith)
-dropped_all (x ∷ xs) (suc n) all = dropped_all xs n (omega arith)
-
 module _ {A : Type 0} (xs : List A) (from to : ℕ) where
   abbrev between : ℕ → ℕ → List A
   between from to = drop from (take to xs)
@@ -69,7 +64,7 @@ module _ {A : Type 0} (xs : List A) (from to : ℕ) where
   between_length = length-drop from (take to xs) ∙ ap (λ n. n - from) (length-take to xs)
 
   none_between : min to (length xs) ≤ from → drop from (take to xs) ≡ []
-  none_between past = dropped_all (take to xs) from (subst (λ n. n ≤ from) (sym (length-take to xs)) past)
+  none_between past = drop_of_length-le (take to xs) (subst (λ n. n ≤ from) (sym (length-take to xs)) past)
 
   first_between : from < min to (length xs) → slice_get (drop from (take to xs)) 0 ≡ slice_get xs from
   first_between below = placed (take to xs) from 0 from (omega arith) ∙ taken_at xs to from (omega arith)

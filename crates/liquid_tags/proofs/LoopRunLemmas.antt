@@ -50,13 +50,25 @@ is_left_by place k (Some Continue) e = ap (λ n. is_left n (Some Continue)) e
 
 module _ {Reg : Type 0} where
   -- what follows may be replaced by what does the same
-  goes_on_same : (o : Option Refusal) (r : Run Reg) (f g : Action Reg) → ((w : View Reg) → f w ≡ g w) → goes_on o r f ≡ goes_on o r g
+  pub goes_on_same : (o : Option Refusal) (r : Run Reg) (f g : Action Reg) → ((w : View Reg) → f w ≡ g w) → goes_on o r f ≡ goes_on o r g
   goes_on_same None r f g e = ap (λ (q : Run Reg). goes_on None r (λ w. q)) (e r.view)
   goes_on_same (Some refusal) r f g e = refl
 
   -- what follows a checkpoint
-  asked : (v : View Reg) {r q : Run Reg} → r ≡ q → and_then (asks v) (λ w. r) ≡ and_then (asks v) (λ w. q)
+  pub asked : (v : View Reg) {r q : Run Reg} → r ≡ q → and_then (asks v) (λ w. r) ≡ and_then (asks v) (λ w. q)
   asked v e = ap (λ (r : Run Reg). and_then (asks v) (λ w. r)) e
+
+  -- whether it leaves or not
+  pub either_done : (b : Bool) (w : View Reg) → cond b (done w) (done w) ≡ done w
+  either_done true w = refl
+  either_done false w = refl
+
+  -- what a turn leaves
+  abbrev pub left_by : ℕ → View Reg → View Reg
+  left_by place v = with_written (written_of (rested place v)) v
+
+  pub left_clear : (place k : ℕ) (v : View Reg) → place ≡ suc k → left_by place v ≡ cleared v
+  left_clear place k v e = ap (λ q. left_by q v) e
 
 module _ {Reg F T P B Q : Type 0} (s : Setting Reg F T P B Q) (partials : List ℕ → Action Reg) (name : List ℕ) (series : SeriesShape)
     (parts : List (Action Reg)) where
@@ -81,17 +93,6 @@ module _ {Reg F T P B Q : Type 0} (s : Setting Reg F T P B Q) (partials : List �
       ≡ and_then (item_run s.fresh name size (part_at parts 0) place t w) (takes_turns left (loop_at ts (place + 1) size n))
   unfolding performed
   item_follows place size left n t ts w = refl
-
-  either_done : (b : Bool) (w : View Reg) → cond b (done w) (done w) ≡ done w
-  either_done true w = refl
-  either_done false w = refl
-
-  -- what a turn leaves
-  abbrev left_by : ℕ → View Reg → View Reg
-  left_by place v = with_written (written_of (rested place v)) v
-
-  left_clear : (place k : ℕ) (v : View Reg) → place ≡ suc k → left_by place v ≡ cleared v
-  left_clear place k v e = ap (λ q. left_by q v) e
 
   -- a turn after a body
   after_turn : (place k : ℕ) (turn : TurnShape) (p : ProgressShape) (rest : ProgressShape → Action Reg) (v : View Reg) → place ≡ suc k

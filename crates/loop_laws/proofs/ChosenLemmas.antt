@@ -1,35 +1,7 @@
 -- The picked items are the chosen ones.
-use Rattle.std.proofs.Common.{
-  ◌≡◌,
-  ℕ,
-  suc,
-  zero,
-  ℤ,
-  pos,
-  negsuc,
-  ◌-◌,
-  ◌≤◌,
-  List,
-  [],
-  ◌∷◌,
-  Bool,
-  true,
-  false,
-  cond,
-  Option,
-  None,
-  Some,
-  Result,
-  Ok,
-  length,
-  drop,
-  refl,
-  sym,
-  ap,
-  ◌∙◌,
-  subst,
-  arith,
-}
+use Rattle.std.proofs.Common.{◌≡◌, ℕ, suc, ℤ, pos, negsuc, ◌-◌, ◌≤◌, List, [], ◌∷◌, Bool, true, false}
+use Rattle.std.proofs.Common.{cond, Option, None, Some, Result, Ok, drop, refl, sym, ap, ◌∙◌, subst, arith}
+use Rattle.std.proofs.Math.ListN.{drop_of_length-le}
 use Rattle.std.specs.Prelude.{take, unwrap_or}
 use Rattle.std.proofs.Math.Dec.{ltb}
 use Rattle.std.proofs.lemmas.Bool.{ltb-true}
@@ -45,15 +17,9 @@ differs : (below : Bool) (a b : ℕ) → ltb a b ≡ below → natural (cond bel
 differs true a b is = let less = ltb-true a b is in omega arith
 differs false a b is = refl
 
-all_dropped : {A : Type 0} (xs : List A) (n : ℕ) → length xs ≤ n → drop n xs ≡ []
-all_dropped [] zero all = refl
-all_dropped [] (suc n) all = refl
-all_dropped (x ∷ xs) zero all = absurd (omega arith)
-all_dropped (x ∷ xs) (suc n) all = all_dropped xs n (omega arith)
-
 none_left : {A : Type 0} (offset to : ℕ) (xs : List A) → to ≤ offset → drop offset (take to xs) ≡ []
 none_left offset to xs past =
-    all_dropped (take to xs) offset (subst (λ n. n ≤ offset) (sym (length-take to xs)) (omega arith))
+    drop_of_length-le (take to xs) (subst (λ n. n ≤ offset) (sym (length-take to xs)) (omega arith))
 
 pub limited_is : {A : Type 0} (offset : ℤ) (limit : Option ℤ) (xs : List A)
     → drop (natural offset) (limited offset limit xs) ≡ chosen offset limit xs

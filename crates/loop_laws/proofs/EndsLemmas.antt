@@ -8,20 +8,13 @@ use Rattle.liquid_runtime.specs.meaning.Frames.{no_frame}
 use Rattle.liquid_runtime.specs.meaning.View.{View}
 use Rattle.liquid_template.specs.meaning.Actions.{and_then, asks, done, goes_on, refused_through, under, writes}
 use Rattle.liquid_template.specs.meaning.Run.{Action, Run, Step, written}
+use Rattle.liquid_tags.proofs.LoopRunLemmas.{goes_on_same}
 use Rattle.loop_laws.specs.meaning.Ends.{Ends}
 
 module _ {Reg : Type 0} where
   -- what follows may be replaced by what does the same
-  pub goes_on_same : (o : Option Refusal) (r : Run Reg) (f g : Action Reg) → ((w : View Reg) → f w ≡ g w) → goes_on o r f ≡ goes_on o r g
-  goes_on_same None r f g e = ap (λ (q : Run Reg). goes_on None r (λ w. q)) (e r.view)
-  goes_on_same (Some refusal) r f g e = refl
-
   pub then_same : (r : Run Reg) (f g : Action Reg) → ((w : View Reg) → f w ≡ g w) → and_then r f ≡ and_then r g
   then_same r f g e = goes_on_same r.refusal r f g e
-
-  -- what follows a checkpoint
-  pub asked : (v : View Reg) {r q : Run Reg} → r ≡ q → and_then (asks v) (λ w. r) ≡ and_then (asks v) (λ w. q)
-  asked v e = ap (λ (r : Run Reg). and_then (asks v) (λ w. r)) e
 
   -- nothing follows
   nothing_more : (o : Option Refusal) (r : Run Reg) → r.refusal ≡ o → goes_on o r done ≡ r

@@ -5,13 +5,12 @@ use Rattle.liquid_error.specs.meaning.Refusal.{Refusal, ok_then}
 use Rattle.liquid_value.specs.meaning.Tree.{Tree}
 use Rattle.liquid_runtime.specs.meaning.Frames.{no_frame}
 use Rattle.liquid_runtime.specs.meaning.View.{View}
-use Rattle.liquid_runtime.specs.meaning.Written.{with_written, written_of}
 use Rattle.liquid_plugins.specs.meaning.Turns.{TurnShape, end_turn}
 use Rattle.liquid_template.specs.meaning.Actions.{and_then, done, part_at, under}
 use Rattle.liquid_template.specs.meaning.Nodes.{Setting, answered, performed, played, started, turns}
 use Rattle.liquid_template.specs.meaning.Run.{Action, Run}
 use Rattle.liquid_tags.specs.laws.LoopRuns.{after_body, cleared, item_run, leaves, loop_run}
-use Rattle.liquid_tags.specs.meaning.Loops.{is_left, item_turn, rested}
+use Rattle.liquid_tags.specs.meaning.Loops.{is_left, item_turn}
 use Rattle.liquid_std.specs.declared.iteration.loops.LoopShape.{LoopShape}
 use Rattle.liquid_std.specs.declared.iteration.scalars.OverScalar.{OverScalar}
 use Rattle.liquid_std.specs.meaning.iteration.Loops.{picked_items}
@@ -22,16 +21,8 @@ use Rattle.liquid_std.specs.declared.blocks.StdProgressShape.TheVariants.{Once, 
 use Rattle.liquid_std.specs.meaning.Blocks.{block_nodes, over_items}
 use Rattle.loop_laws.specs.laws.ForLoops.{TakesElse}
 use Rattle.loop_laws.specs.laws.ForRuns.{for_run, part_alone}
-use Rattle.loop_laws.proofs.EndsLemmas.{asked, then_done, then_same, unframed}
-use Rattle.liquid_tags.proofs.LoopRunLemmas.{is_left_by}
-
-module _ {Reg : Type 0} where
-  -- what a turn leaves
-  abbrev pub left_by : ℕ → View Reg → View Reg
-  left_by place v = with_written (written_of (rested place v)) v
-
-  pub left_clear : (place k : ℕ) (v : View Reg) → place ≡ suc k → left_by place v ≡ cleared v
-  left_clear place k v e = ap (λ q. left_by q v) e
+use Rattle.loop_laws.proofs.EndsLemmas.{then_done, then_same, unframed}
+use Rattle.liquid_tags.proofs.LoopRunLemmas.{asked, either_done, is_left_by, left_by, left_clear}
 
 module _ {Reg F T P B Q : Type 0} (s : Setting Reg F T P B Q) (partials : List ℕ → Action Reg) (held : MarksIn Reg)
     (over : OverScalar) (l : LoopShape) (parts : List (Action Reg)) where
@@ -63,10 +54,6 @@ module _ {Reg F T P B Q : Type 0} (s : Setting Reg F T P B Q) (partials : List �
       ≡ and_then (item_at size place t w) (takes_turns left (loop_at ts (place + 1) size n))
   unfolding performed
   item_follows place size left n t ts w = refl
-
-  either_done : (b : Bool) (w : View Reg) → cond b (done w) (done w) ≡ done w
-  either_done true w = refl
-  either_done false w = refl
 
   -- a turn after a body
   after_turn : (place k : ℕ) (turn : TurnShape) (p : StdProgressShape) (rest : StdProgressShape → Action Reg) (v : View Reg) → place ≡ suc k

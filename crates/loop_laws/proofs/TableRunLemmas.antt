@@ -58,8 +58,8 @@ use Rattle.liquid_std.specs.meaning.Standard.{standard}
 use Rattle.loop_laws.specs.laws.Tables.{GoesOver, NilRuns, TableRuns}
 use Rattle.loop_laws.specs.laws.ForRuns.{part_alone}
 use Rattle.loop_laws.specs.laws.TableRuns.{after_cell, cell_run, closing, table_run}
-use Rattle.loop_laws.proofs.EndsLemmas.{asked, then_done, then_same, unframed}
-use Rattle.loop_laws.proofs.ForRunLemmas.{left_by, left_clear}
+use Rattle.loop_laws.proofs.EndsLemmas.{then_done, then_same, unframed}
+use Rattle.liquid_tags.proofs.LoopRunLemmas.{asked, left_by, left_clear}
 use Rattle.liquid_tags.proofs.LoopRunLemmas.{is_left_by}
 
 -- a text and a body for each item
