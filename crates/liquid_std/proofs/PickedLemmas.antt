@@ -35,7 +35,7 @@ use Rattle.std.proofs.lemmas.List.{length-reverse, reverse-append, length-drop, 
 use Rattle.std.proofs.Math.ListN.{drop_of_length-le}
 use Rattle.std.proofs.Math.Seq.{take-length}
 use Rattle.liquid_std.specs.meaning.iteration.Picked.{in_order, natural, picked}
-use Rattle.liquid_tags.proofs.Items.{placed, rest_past}
+use Rattle.liquid_tags.proofs.LoopItems.{placed, rest_past}
 
 -- what is at a place before an end
 taken_at : {A : Type 0} (xs : List A) (to at : ℕ) → at < to → slice_get (take to xs) at ≡ slice_get xs at

@@ -1,6 +1,6 @@
 pub mod ConditionLemmas
 pub mod DivideLemmas
-pub mod Items
+pub mod LoopItems
 pub mod LoopRunLemmas
 pub mod PageLemmas
 pub mod PairLemmas

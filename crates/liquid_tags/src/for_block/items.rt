@@ -41,7 +41,7 @@ pub struct RangeItems {
 
 impl Items {
     /// Returns the items of an array, which is moved into memory of its own unless it is shared.
-    #[tactic(auto, using(crate::proofs::Items::own_trees, crate::proofs::Items::shared_trees))]
+    #[tactic(auto, using(crate::proofs::LoopItems::own_trees, crate::proofs::LoopItems::shared_trees))]
     pub(crate) fn from_shared(alloc: Global, array: SharedArray) -> Result<Items, AllocError>
         ensures { IfOk result (λ items. items_left items ≡ trees (array_view array)) }
     {
@@ -120,7 +120,7 @@ fn number_item(number: Option<i64>) -> Option<LoopItem>
 
 impl ArrayItems {
     /// Returns the number of items that are left.
-    #[tactic(auto, using(crate::proofs::Items::left_count))]
+    #[tactic(auto, using(crate::proofs::LoopItems::left_count))]
     fn len(&self) -> usize
         ensures { result ≡ length (drop self.now.place (map tree_of self.now.array.value.items)) }
     {
@@ -128,7 +128,7 @@ impl ArrayItems {
     }
 
     /// Returns the item at a place, counted from 0, if there is one.
-    #[tactic(auto, using(crate::proofs::Items::left_at))]
+    #[tactic(auto, using(crate::proofs::LoopItems::left_at))]
     fn get(&self, place: u64) -> Result<Option<Listed>, AllocError>
         ensures { IfOk result (λ item. option_map listed_tree item
             ≡ slice_get (drop self.now.place (map tree_of self.now.array.value.items)) place) }
@@ -140,7 +140,7 @@ impl ArrayItems {
     }
 
     /// Removes the first item and returns it, if there is one.
-    #[tactic(auto, using(crate::proofs::Items::at_place, crate::proofs::Items::rest_after, crate::proofs::Items::none_after))]
+    #[tactic(auto, using(crate::proofs::LoopItems::at_place, crate::proofs::LoopItems::rest_after, crate::proofs::LoopItems::none_after))]
     fn take_first(&mut self) -> Result<Option<Listed>, AllocError>
         ensures first { IfOk result (λ item. option_map listed_tree item
             ≡ slice_get (drop self.old.place (map tree_of self.old.array.value.items)) 0) }
@@ -162,7 +162,7 @@ impl ArrayItems {
 
 impl RangeItems {
     /// Returns the number at a place, counted from 0, if there is one.
-    #[tactic(auto, using(crate::proofs::Items::number_at, crate::proofs::Items::number_past))]
+    #[tactic(auto, using(crate::proofs::LoopItems::number_at, crate::proofs::LoopItems::number_past))]
     fn get(&self, place: u64) -> Result<Option<i64>, AllocError>
         ensures { IfOk result (λ number. option_map (λ n. scalar (integer n)) number
             ≡ slice_get (counted self.now.next self.now.size) place) }

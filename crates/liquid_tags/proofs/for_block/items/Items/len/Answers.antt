@@ -1,4 +1,4 @@
-use Rattle.liquid_tags.proofs.Items.{counted_size}
+use Rattle.liquid_tags.proofs.LoopItems.{counted_size}
 use Rattle.liquid_tags.proofs.for_block.items.Items.len.Goals as goal
 
 pub returns-in-Counted : goal.returns-in-Counted
