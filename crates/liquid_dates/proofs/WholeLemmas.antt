@@ -27,7 +27,8 @@ use Rattle.liquid_dates.specs.declared.reading.Ymd.{Ymd}
 use Rattle.liquid_dates.specs.meaning.Names.{month_name, short_month_name}
 use Rattle.liquid_dates.specs.meaning.DateText.{iso_date, long_date, short_date, date_forms, SameDate}
 use Rattle.liquid_dates.proofs.PairForms.{dashed, day_month}
-use Rattle.liquid_dates.specs.steps.DateReader.{Read, read_of, whole_of, by_day, by_year, read_long_date, read_short_date, read_iso_date, IsWholeDate}
+use Rattle.liquid_dates.specs.steps.DateReader.{Read, read_of, whole_of, by_day}
+use Rattle.liquid_dates.specs.steps.DateReader.{by_year, read_long_date, read_short_date, read_iso_date, IsWholeDate}
 use Rattle.liquid_dates.proofs.DateTextLemmas.{whole_sound, whole_complete, long_reads, short_reads, dashed_reads}
 
 pub whole_some : {A : Type 0} (a v : A) (rest : List ℕ) → whole_of (Some (a, rest)) ≡ Some v → (rest ≡ []) × (a ≡ v)

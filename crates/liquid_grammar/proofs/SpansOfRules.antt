@@ -49,7 +49,8 @@ use Rattle.liquid_grammar.specs.meaning.Literals.{
   Number,
   LiteralRule,
 }
-use Rattle.liquid_grammar.specs.meaning.Values.{Value, Index, named_index, gather, placed_literal, placed_variable, placed_bracket, Bracketed, IndexOver, VariableOver, ValueOver, Nested, ValueRule}
+use Rattle.liquid_grammar.specs.meaning.Values.{Value, Index, named_index, gather, placed_literal, placed_variable}
+use Rattle.liquid_grammar.specs.meaning.Values.{placed_bracket, Bracketed, IndexOver, VariableOver, ValueOver, Nested, ValueRule}
 use Rattle.liquid_grammar.specs.meaning.Tokens.{
   positional,
   keyword,

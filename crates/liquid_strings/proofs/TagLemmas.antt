@@ -1,5 +1,6 @@
 -- Parts of a string that are left out.
-use Rattle.std.proofs.Common.{◌≡◌, ℕ, suc, ◌+◌, ◌-◌, ◌<◌, ◌≤◌, true, cond, List, [], ◌∷◌, ◌++◌, Option, None, Some, length, take, drop, get_or, leb, refl, sym, ap, ◌∙◌, arith, append_assoc, drop-drop, length-drop, ⊎_elim}
+use Rattle.std.proofs.Common.{◌≡◌, ℕ, suc, ◌+◌, ◌-◌, ◌<◌, ◌≤◌, true, cond, List, [], ◌∷◌, ◌++◌, Option, None}
+use Rattle.std.proofs.Common.{Some, length, take, drop, get_or, leb, refl, sym, ap, ◌∙◌, arith, append_assoc, drop-drop, length-drop, ⊎_elim}
 use Rattle.std.specs.List.{slice_range, starts_with}
 use Rattle.std.specs.Option.{option_map}
 use Rattle.std.specs.Prelude.{nat_eq}
