@@ -3,3 +3,4 @@ pub mod Names
 pub mod Given
 pub mod TokensRead
 pub mod Shown
+mod DecimalWalk

@@ -10,9 +10,8 @@ ghost use Rattle.liquid_pages.specs.meaning.Faults.{Returns};
 ghost use Rattle.liquid_pages.specs.meaning.Globals.{globals_read, json_object};
 
 use crate::fault::PageFault;
-use liquid_decimal_json::object_with_decimals;
 use liquid_error::{Error, Result as Answer};
-use liquid_json::object_from_str;
+use liquid_json::{object_from_str, object_with_decimals};
 use liquid_value::Object;
 use serde_json::{Category, Error as JsonError};
 use std::alloc::Global;

@@ -1,6 +1,6 @@
 -- A fault with a place says that a text is not of its format.
 use Rattle.std.proofs.Common.{◌≡◌, ℕ, List, None}
-use Rattle.liquid_decimal_json.specs.meaning.Given.{object_read}
+use Rattle.liquid_json.specs.meaning.decimals.Given.{object_read}
 use Rattle.page_data.specs.declared.fault.DataFault.{DataFault}
 use Rattle.page_data.specs.declared.fault.DataFault.TheVariants as fault
 use Rattle.page_data.specs.meaning.Document.{JsonRefused}

@@ -1,7 +1,7 @@
 //! Data read from texts of three formats.
 ghost use Rattle.std.specs.Prelude.{◌≡◌, ◌≢◌, IfOk, IfErr, None, Ok, Some};
 ghost use Rattle.csv.specs.Reading.{strip_bom};
-ghost use Rattle.liquid_decimal_json.specs.meaning.Given.{object_read};
+ghost use Rattle.liquid_json.specs.meaning.decimals.Given.{object_read};
 ghost use Rattle.liquid_error.specs.meaning.Told.{told};
 ghost use Rattle.liquid_value.specs.meaning.View.{members_view};
 ghost use Rattle.page_data.specs.meaning.Document.{DataGiven, IsRefused, JsonRefused, TableGiven, TableRefused, ends_in, format_of};
@@ -13,7 +13,7 @@ use crate::fault::{DataFault, place_of};
 use crate::json_cause::fault_of_json;
 use crate::rows::rows_of_csv;
 use crate::tables::object_of_table;
-use liquid_decimal_json::object_with_decimals;
+use liquid_json::object_with_decimals;
 use liquid_value::{Object, SharedArray, Value};
 use std::alloc::Global;
 use toml::de::Error as TomlError;

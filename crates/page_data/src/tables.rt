@@ -7,8 +7,8 @@ ghost use Rattle.toml.specs.View.{view as toml_view, array_view as toml_array, t
 ghost use Rattle.toml_writer.specs.Text.{IsFloatText};
 ghost use Rattle.page_data.specs.meaning.Tables.{Given, ItemsGiven, MembersGiven, Refused, ItemsRefused, MembersRefused};
 
-use liquid_decimal_json::number_value;
 use liquid_error::{Error, Result};
+use liquid_json::decimals::number_value;
 use liquid_scalar::Scalar;
 use liquid_value::{Array, Object, SharedArray, SharedObject, Value};
 use std::alloc::{AllocError, Global};

@@ -4,7 +4,7 @@ use Rattle.std.specs.FinMap.{from_entries}
 use Rattle.liquid_error.specs.meaning.Refusal.{Refusal}
 use Rattle.liquid_value.specs.meaning.Tree.{Tree, Members, no_members, member}
 use Rattle.liquid_runtime.specs.meaning.Maps.{Names}
-use Rattle.liquid_decimal_json.specs.meaning.Given.{object_read as object_with_decimals}
+use Rattle.liquid_json.specs.meaning.decimals.Given.{object_read as object_with_decimals}
 use Rattle.liquid_json.specs.meaning.Given.{object_read}
 use Rattle.liquid_pages.specs.meaning.Faults.{Fault, bad_json, no_globals}
 

@@ -2,7 +2,7 @@
 use Rattle.std.specs.Prelude.{◌≡◌, ⊤, ℕ, List, Bool, ◌==◌, codes, Option, Some, None, Ok, Err, IfSome, if◌then◌else◌}
 use Rattle.std.specs.List.{ends_with}
 use Rattle.csv.specs.Reading.{strip_bom}
-use Rattle.liquid_decimal_json.specs.meaning.Given.{object_read}
+use Rattle.liquid_json.specs.meaning.decimals.Given.{object_read}
 use Rattle.liquid_error.specs.meaning.Told.{told}
 use Rattle.liquid_value.specs.meaning.Tree.{array, Items, Members, no_members, member}
 use Rattle.toml.specs.Data as toml

@@ -1,6 +1,6 @@
 -- The value of TOML: each kind has its value, and a float and a date time have the text that TOML writes for them.
 use Rattle.std.specs.Prelude.{◌≡◌, ◌⊎◌, ℕ, List, Ok, Err}
-use Rattle.liquid_decimal_json.specs.meaning.Number.{number_given}
+use Rattle.liquid_json.specs.meaning.decimals.Number.{number_given}
 use Rattle.liquid_error.specs.meaning.Refusal.{Refusal}
 use Rattle.liquid_scalar.specs.meaning.Scalar as scal
 use Rattle.liquid_value.specs.meaning.Members.{put_member}

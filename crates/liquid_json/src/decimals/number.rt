@@ -4,8 +4,8 @@ ghost use Rattle.std.specs.List.{position};
 ghost use Rattle.liquid_error.specs.meaning.Told.{Gives};
 ghost use Rattle.liquid_value.specs.meaning.View.{view};
 ghost use Rattle.liquid_decimals.specs.meaning.Dec.{dec};
-ghost use Rattle.liquid_decimal_json.specs.meaning.Number.{decimal_given, decimal_of_number, is_integer, is_mark};
-ghost use Rattle.liquid_decimal_json.specs.meaning.Number.{is_point_or_mark, number_given, with_exponent, without_plus};
+ghost use Rattle.liquid_json.specs.meaning.decimals.Number.{decimal_given, decimal_of_number, is_integer, is_mark};
+ghost use Rattle.liquid_json.specs.meaning.decimals.Number.{is_point_or_mark, number_given, with_exponent, without_plus};
 
 use liquid_decimals::Decimal;
 use liquid_error::{Error, Result};

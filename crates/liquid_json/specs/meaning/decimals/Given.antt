@@ -6,7 +6,7 @@ use Rattle.liquid_error.specs.meaning.Refusal.{Refusal, plain, ok_then}
 use Rattle.liquid_scalar.specs.meaning.Scalar.{boolean, text}
 use Rattle.liquid_value.specs.meaning.Members.{put_member}
 use Rattle.liquid_value.specs.meaning.Tree.{Tree, nil, scalar, array, object, Items, no_items, item, Members, no_members}
-use Rattle.liquid_decimal_json.specs.meaning.Number.{number_given}
+use Rattle.liquid_json.specs.meaning.decimals.Number.{number_given}
 
 -- null is nil, and everything else is the value of its kind
 abbrev mutual

@@ -2,8 +2,8 @@ use Rattle.std.proofs.Common.{◌≡◌, ◌∙◌, None, Err, ap, sym, rules}
 use Rattle.std.proofs.lemmas.Option.{none-some}
 use Rattle.std.specs.Prelude.{option_and_then, option_map}
 use Rattle.serde_json.specs.Read.{of_json, read}
-use Rattle.liquid_decimal_json.specs.meaning.Given.{json_read, object_given, object_read}
-use Rattle.liquid_decimal_json.proofs.read.object_with_decimals.Goals as goal
+use Rattle.liquid_json.specs.meaning.decimals.Given.{json_read, object_given, object_read}
+use Rattle.liquid_json.proofs.decimals.read.object_with_decimals.Goals as goal
 
 pub unreachable-requires : goal.unreachable-requires
 unreachable-requires c =

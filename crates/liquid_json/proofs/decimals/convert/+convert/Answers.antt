@@ -4,8 +4,8 @@ use Rattle.json.specs.Value.{value_view as json_view, items_view as json_items, 
 use Rattle.liquid_value.specs.meaning.Tree.{no_members}
 use Rattle.liquid_value.specs.meaning.View.{view, members_view}
 use Rattle.liquid_value.proofs.Entries.{members_view-insert_entry}
-use Rattle.liquid_decimal_json.specs.meaning.Given.{items_given, members_given}
-use Rattle.liquid_decimal_json.proofs.Walk.{
+use Rattle.liquid_json.specs.meaning.decimals.Given.{items_given, members_given}
+use Rattle.liquid_json.proofs.DecimalWalk.{
   after_items,
   no_item_yet,
   item_given,
@@ -15,7 +15,7 @@ use Rattle.liquid_decimal_json.proofs.Walk.{
   member_refusal,
   refuses,
 }
-use Rattle.liquid_decimal_json.proofs.convert.+convert.Goals as goal
+use Rattle.liquid_json.proofs.decimals.convert.+convert.Goals as goal
 
 pub convert_items-loop-item-init : goal.convert_items-loop-item-init
 convert_items-loop-item-init t c =

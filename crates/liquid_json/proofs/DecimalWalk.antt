@@ -10,7 +10,7 @@ use Rattle.liquid_value.specs.meaning.Members.{put_member}
 use Rattle.liquid_value.specs.meaning.Tree.{Tree, Items, no_items, item, Members}
 use Rattle.liquid_value.specs.meaning.View.{view, items_of, items_view}
 use Rattle.liquid_value.specs.declared.value.Value.{Value}
-use Rattle.liquid_decimal_json.specs.meaning.Given.{value_given, items_given, members_given}
+use Rattle.liquid_json.specs.meaning.decimals.Given.{value_given, items_given, members_given}
 
 -- the items with others before them
 joined : List Tree → Items → Items

@@ -4,9 +4,9 @@ ghost use Rattle.json.specs.Value.{value_view as json_view, items_view as json_i
 ghost use Rattle.liquid_error.specs.meaning.Told.{Gives};
 ghost use Rattle.liquid_value.specs.meaning.Tree.{no_members};
 ghost use Rattle.liquid_value.specs.meaning.View.{view, items_view, members_view};
-ghost use Rattle.liquid_decimal_json.specs.meaning.Given.{items_given, members_given, object_given, value_given};
+ghost use Rattle.liquid_json.specs.meaning.decimals.Given.{items_given, members_given, object_given, value_given};
 
-use crate::number::number_value;
+use crate::decimals::number::number_value;
 use json::Value as Json;
 use liquid_error::{Error, Result};
 use liquid_scalar::Scalar;

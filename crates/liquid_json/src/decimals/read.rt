@@ -7,9 +7,9 @@ ghost use Rattle.liquid_error.specs.meaning.Refusal.{Refusal};
 ghost use Rattle.liquid_error.specs.meaning.Told.{Gives};
 ghost use Rattle.liquid_value.specs.meaning.Tree.{Members};
 ghost use Rattle.liquid_value.specs.meaning.View.{members_view};
-ghost use Rattle.liquid_decimal_json.specs.meaning.Given.{json_read, object_read};
+ghost use Rattle.liquid_json.specs.meaning.decimals.Given.{json_read, object_read};
 
-use crate::convert::object_of;
+use crate::decimals::convert::object_of;
 use json::{Reader, Scratch, Value as Json};
 use liquid_error::Result as Answer;
 use liquid_value::Object;
@@ -19,7 +19,7 @@ use std::alloc::{AllocError, Global};
 /// The greatest number of nested arrays and objects, as in `serde_json`.
 const MOST_NESTED: usize = 127;
 
-/// Reads the object of a text of JSON, as `object_from_str` of `liquid_json` does, with decimals.
+/// Reads the object of a text of JSON, as `object_from_str` does, with decimals.
 ///
 /// A number with a fraction or an exponent is a decimal: a string of its digits, or an integer if it has no digits after
 /// the point. If a name occurs twice, its last value is kept.

@@ -2,9 +2,9 @@ use Rattle.std.proofs.Common.{◌≡◌, drop, map}
 use Rattle.json.specs.Value.{value_view as json_view, items_view as json_items, members_view as json_members}
 use Rattle.liquid_value.specs.meaning.Tree.{no_members}
 use Rattle.liquid_value.specs.meaning.View.{view, members_view}
-use Rattle.liquid_decimal_json.specs.meaning.Given.{items_given, members_given}
-use Rattle.liquid_decimal_json.proofs.Walk.{after_items}
-use Rattle.liquid_decimal_json.proofs.convert.+convert.Given as goal
+use Rattle.liquid_json.specs.meaning.decimals.Given.{items_given, members_given}
+use Rattle.liquid_json.proofs.DecimalWalk.{after_items}
+use Rattle.liquid_json.proofs.decimals.convert.+convert.Given as goal
 
 abbrev pub invariant-convert_items-loop-item : goal.invariant-convert_items-loop-item
 invariant-convert_items-loop-item l =

@@ -1,5 +1,4 @@
 //! JSON as values, with decimals: a number with a fraction is the text of its decimal.
-#![tactic(auto)]
 
 mod convert;
 mod number;
