@@ -5,3 +5,8 @@ pub mod PageNames
 pub mod PartialLemmas
 pub mod RequestLemmas
 pub mod WrapLemmas
+mod Columns
+mod Marks
+mod Paths
+mod Placed
+mod Walk

@@ -5,3 +5,4 @@ pub mod Items
 pub mod Layouts
 pub mod Partials
 pub mod Requested
+pub mod data

@@ -3,9 +3,9 @@ ghost use Rattle.std.specs.Prelude.{◌≡◌, ◌<◌, ℕ, IfOk, IfSome, drop,
 ghost use Rattle.liquid_value.specs.meaning.View.{members_view};
 ghost use Rattle.page_site.specs.meaning.Front.{Splits};
 
+use crate::data::{DataFault, Format, read_data};
 use crate::yaml::read_lines;
 use liquid_value::Object;
-use page_data::{DataFault, Format, read_data};
 use std::alloc::{AllocError, AllocFailed, Global};
 
 /// Why front matter can't be read.

@@ -1,6 +1,8 @@
-//! The pages of a site: what is rendered and what is copied, within which layouts, and which files are written.
+//! The pages of a site: what is rendered and what is copied, within which layouts, and which files are written; and the data
+//! of pages.
 #![tactic(auto)]
 
+pub mod data;
 pub mod engine;
 pub mod fault;
 pub mod front;

@@ -1,5 +1,0 @@
-mod Columns
-mod Marks
-mod Paths
-mod Placed
-mod Walk
