@@ -1,0 +1,17 @@
+pub mod ChosenLemmas
+pub mod EndsLemmas
+pub mod ForRunLemmas
+pub mod ForWriteLemmas
+pub mod RowLemmas
+pub mod RowsExist
+pub mod TableRunLemmas
+pub mod TableWriteLemmas
+pub mod Examples
+pub mod NameLemmas
+pub mod TokenLemmas
+pub mod TreeLemmas
+pub mod StepLemmas
+pub mod ReadLemmas
+pub mod CallLemmas
+pub mod MeaningLemmas
+pub mod RunLemmas

@@ -1,0 +1,2 @@
+pub mod loops
+pub mod superset

@@ -1,5 +1,0 @@
-use Rattle.liquid_superset.proofs.RunLemmas.{runs_images}
-use Rattle.liquid_superset.proofs.laws.standard_runs_the_library.Goals as goal
-
-pub returns : goal.returns
-returns g c = λ fresh m. runs_images _ fresh m

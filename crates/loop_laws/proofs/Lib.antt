@@ -1,9 +1,0 @@
-pub mod ChosenLemmas
-pub mod EndsLemmas
-pub mod ForRunLemmas
-pub mod ForWriteLemmas
-pub mod RowLemmas
-pub mod RowsExist
-pub mod TableRunLemmas
-pub mod TableWriteLemmas
-pub mod Examples

@@ -1,5 +1,0 @@
-use Rattle.loop_laws.proofs.ForWriteLemmas.{for_runs}
-use Rattle.loop_laws.proofs.laws.for_renders_each_item.Goals as goal
-
-pub returns : goal.returns
-returns g c = λ fresh m. for_runs _ fresh m

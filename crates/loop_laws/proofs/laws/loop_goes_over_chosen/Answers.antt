@@ -1,5 +1,0 @@
-use Rattle.loop_laws.proofs.ChosenLemmas.{goes_over_chosen}
-use Rattle.loop_laws.proofs.laws.loop_goes_over_chosen.Goals as goal
-
-pub returns : goal.returns
-returns g c = goes_over_chosen

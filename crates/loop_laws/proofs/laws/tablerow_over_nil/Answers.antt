@@ -1,5 +1,0 @@
-use Rattle.loop_laws.proofs.TableRunLemmas.{nil_runs}
-use Rattle.loop_laws.proofs.laws.tablerow_over_nil.Goals as goal
-
-pub returns : goal.returns
-returns g c = λ fresh m. nil_runs _ fresh m

@@ -1,5 +1,0 @@
-use Rattle.loop_laws.proofs.TableRunLemmas.{table_runs}
-use Rattle.loop_laws.proofs.laws.tablerow_renders_each_item.Goals as goal
-
-pub returns : goal.returns
-returns g c = λ fresh m. table_runs _ fresh m

@@ -1,5 +1,0 @@
-use Rattle.loop_laws.proofs.TableWriteLemmas.{table_writes}
-use Rattle.loop_laws.proofs.laws.tablerow_writes_rows.Goals as goal
-
-pub returns : goal.returns
-returns g c = λ fresh m. table_writes _ fresh m
