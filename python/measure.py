@@ -1,4 +1,4 @@
-"""Measures the pages of crates/example_themes, rendered by this package and by Jinja2, where it is installed: the processor's time of
+"""Measures the pages of crates/example_pages, rendered by this package and by Jinja2, where it is installed: the processor's time of
 a page, the least of three runs.
 
     python3 python/measure.py [PAGES]    PAGES of each theme, 100 if left out
@@ -21,7 +21,7 @@ import liquid_core
 from liquid_core import Environment, FileSystemLoader
 
 HERE = Path(__file__).resolve().parent
-THEMES = HERE.parent / "crates" / "example_themes" / "data"
+THEMES = HERE.parent / "crates" / "example_pages" / "data"
 
 
 class Way(NamedTuple):

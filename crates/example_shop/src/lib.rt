@@ -1,5 +1,5 @@
 //! A shop: an example over the engine, the tag library and the standard filters, with a filter, a tag and blocks of its
-//! own. The program `example_shop_page` writes its page.
+//! own. The program `example_pages` writes its page.
 #![tactic(auto)]
 
 pub mod badge;

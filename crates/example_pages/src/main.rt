@@ -1,8 +1,9 @@
-//! Renders the pages of themes: each word of the command line is a folder with a template `page.liquid`, its data in
-//! `data.json`, and a folder `parts` of partials. The pages are written one after another.
+//! Writes the page of the crate `example_shop`, and after it the pages of themes: each word of the command line is a folder
+//! with a template `page.liquid`, its data in `data.json`, and a folder `parts` of partials.
 #![tactic(auto)]
 
 mod fault;
+mod shop;
 mod theme;
 
 use fault::Fault;
@@ -11,6 +12,7 @@ use liquid_filters::{FilterPlugin, StdKind, filters};
 use liquid_pages::{Leniency, PageFrame, PageOptions, Rendered, render_page};
 use liquid_std::marks::Marks;
 use liquid_std::{StdBlocks, StdTags, language};
+use shop::write_shop;
 use std::alloc::Global;
 use std::env;
 use std::io::{self, Write};
@@ -50,8 +52,10 @@ fn write_page(rt: &HostRuntime, language: &Rc<StdLanguage>, folder: &str) -> Res
     Ok(end?)
 }
 
-/// Writes the page of each folder of the command line.
+/// Writes the page of the shop, and that of each folder of the command line.
 fn write_pages(rt: &HostRuntime) -> Result<(), Fault> {
+    let stdout = rt.stdout();
+    write_shop(rt.alloc(), &mut io::writer(&stdout))?;
     let language = standard(rt.alloc())?;
     for folder in env::args(rt)?.skip(1) {
         write_page(rt, &language, folder.as_str())?;
