@@ -5,3 +5,4 @@ pub mod Sense
 pub mod TextBlocks
 pub mod TextNodes
 pub mod Arguments
+pub mod text_tags

@@ -6,9 +6,9 @@ ghost use Rattle.test_calls.specs.meaning.Links.{linked, text_of};
 use liquid_core::Error;
 use liquid_core::model::{Value, ValueRender};
 use liquid_core::parser::ParameterReflection;
+use liquid_extend::TextTag;
 use liquid_filters::{CallArguments, FilterRow};
 use std::alloc::{AllocError, Global};
-use text_tags::TextTag;
 
 /// The tag `link`, which writes an address and a title.
 #[derive(Debug, Clone, Copy)]

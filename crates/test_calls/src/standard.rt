@@ -7,9 +7,8 @@ use liquid_core::model::Object;
 use liquid_core::parser::{NoPlugin, PluginRegistry};
 use liquid_core::partials::InMemorySource;
 use liquid_core::{Error, TextSink, render_page_in};
-use liquid_extend::TextBlockPlugin;
+use liquid_extend::{TextBlockPlugin, TextTagPlugin};
 use std::alloc::Global;
-use text_tags::TextTagPlugin;
 
 /// Renders a text without globals, in the standard language with the tag `link` and the block `twice`.
 fn render(alloc: Global, text: &str, sink: &mut TextSink) -> Result<(), Error> {

@@ -9,7 +9,7 @@ use rows::holds;
 use std::alloc::Global;
 use std::test::Fail;
 use test_calls::Link;
-use text_tags::TextTagPlugin;
+use liquid_extend::TextTagPlugin;
 
 /// Renders a text over these globals, in the standard language with the tag `link`.
 fn render(alloc: Global, text: &str, globals: &str, sink: &mut TextSink) -> Result<(), Error> {

@@ -5,7 +5,7 @@ use Rattle.liquid_value.specs.meaning.Render.{render}
 use Rattle.liquid_value.specs.meaning.Tree.{Tree}
 use Rattle.liquid_filters.specs.meaning.Calls.{keyword_of}
 use Rattle.liquid_filters.specs.meaning.Given.{Given}
-use Rattle.text_tags.specs.meaning.Sense.{TextTagSense}
+use Rattle.liquid_extend.specs.meaning.text_tags.Sense.{TextTagSense}
 
 -- the text of a value, or an empty text without one
 abbrev pub text_of : Option Tree → List ℕ

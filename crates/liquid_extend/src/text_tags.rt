@@ -1,6 +1,5 @@
 //! Tags that write a text. Each kind of such a tag is a name, its parameters and one function of the values of its
 //! arguments.
-#![tactic(auto)]
 
 pub mod kind;
 pub mod node;

@@ -12,9 +12,9 @@ use Rattle.liquid_filters.specs.declared.call.CallShape.{CallShape}
 use Rattle.liquid_filters.specs.meaning.Calls.{call_answer, evaluate_arguments}
 use Rattle.liquid_filters.specs.meaning.Given.{Given}
 use Rattle.liquid_filters.proofs.ArgumentSteps.{call_answer_erased}
-use Rattle.text_tags.specs.declared.kind.TagAnswer.{TagAnswer}
-use Rattle.text_tags.specs.meaning.Nodes.{tag_turn}
-use Rattle.text_tags.specs.meaning.Sense.{TextTagSense, answer_sense}
+use Rattle.liquid_extend.specs.declared.text_tags.kind.TagAnswer.{TagAnswer}
+use Rattle.liquid_extend.specs.meaning.text_tags.Nodes.{tag_turn}
+use Rattle.liquid_extend.specs.meaning.text_tags.Sense.{TextTagSense, answer_sense}
 
 -- a text as a value, and as what is written
 abbrev as_value : List ℕ → Result Tree Refusal

@@ -5,8 +5,8 @@ use Rattle.liquid_parser.specs.meaning.Handed.{Tokens}
 use Rattle.liquid_filters.specs.declared.call.CallShape.{CallShape}
 use Rattle.liquid_filters.specs.meaning.Calls.{call_made}
 use Rattle.liquid_extend.specs.meaning.Arguments.{arguments_given}
-use Rattle.text_tags.specs.declared.kind.TagAnswer.{TagAnswer}
-use Rattle.text_tags.specs.meaning.Sense.{TextTagSense, answer_sense}
+use Rattle.liquid_extend.specs.declared.text_tags.kind.TagAnswer.{TagAnswer}
+use Rattle.liquid_extend.specs.meaning.text_tags.Sense.{TextTagSense, answer_sense}
 
 -- the arguments that all tokens make, if they fit the parameters
 abbrev pub tag_given : {K : Type 0} → (K → TextTagSense) → K → Tokens → Result (CallShape (TagAnswer K)) Refusal

@@ -6,8 +6,8 @@ use Rattle.liquid_plugins.specs.meaning.Turning.{answers, begins_with, captures_
 use Rattle.liquid_plugins.specs.meaning.Turns.{TurnShape, text_turn, NodeMeaning}
 use Rattle.liquid_filters.specs.declared.call.CallShape.{CallShape}
 use Rattle.liquid_filters.specs.meaning.Calls.{evaluate_arguments}
-use Rattle.text_tags.specs.declared.kind.TagAnswer.{TagAnswer}
-use Rattle.text_tags.specs.meaning.Sense.{TextTagSense}
+use Rattle.liquid_extend.specs.declared.text_tags.kind.TagAnswer.{TagAnswer}
+use Rattle.liquid_extend.specs.meaning.text_tags.Sense.{TextTagSense}
 
 module _ {K : Type 0} (sense : K → TextTagSense) where
   -- the arguments are evaluated, and the tag's text for their values is written

@@ -3,7 +3,7 @@ ghost use Rattle.std.specs.Prelude.{◌≡◌, string_bytes};
 ghost use Rattle.liquid_error.specs.meaning.Told.{Gives};
 ghost use Rattle.liquid_filters.specs.meaning.Given.{given};
 ghost use Rattle.liquid_filters.specs.meaning.Rows.{IsRow};
-ghost use Rattle.text_tags.specs.meaning.Sense.{TextTagSense, answer_sense, filter_sense};
+ghost use Rattle.liquid_extend.specs.meaning.text_tags.Sense.{TextTagSense, answer_sense, filter_sense};
 
 use liquid_error::Error;
 use liquid_filters::{CallArguments, FilterKind, FilterRow};

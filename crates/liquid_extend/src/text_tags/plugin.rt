@@ -1,10 +1,10 @@
 //! Kinds of text tags as plug-ins. Their tokens are arguments.
-ghost use Rattle.text_tags.specs.meaning.Tags.{tag_given};
+ghost use Rattle.liquid_extend.specs.meaning.text_tags.Tags.{tag_given};
 
-use crate::kind::{TagAnswer, TextTag};
-use crate::node::TextTagNode;
+use crate::read_arguments;
+use crate::text_tags::kind::{TagAnswer, TextTag};
+use crate::text_tags::node::TextTagNode;
 use liquid_error::Error;
-use liquid_extend::read_arguments;
 use liquid_filters::FilterPlugin;
 use liquid_parser::{ParseTag, TagReflection, TagTokenIter};
 use liquid_plugins::{ParseFilter, PluginRegistry};

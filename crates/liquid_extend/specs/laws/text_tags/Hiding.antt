@@ -10,9 +10,9 @@ use Rattle.liquid_plugins.specs.meaning.Turns.{text_turn}
 use Rattle.liquid_plugins.proofs.Hiding.{answers_hide}
 use Rattle.liquid_filters.specs.declared.call.CallShape.{CallShape}
 use Rattle.liquid_filters.proofs.ArgumentSteps.{evaluate_arguments_erased}
-use Rattle.text_tags.specs.declared.kind.TagAnswer.{TagAnswer}
-use Rattle.text_tags.specs.meaning.Nodes.{tag_turn, text_nodes}
-use Rattle.text_tags.specs.meaning.Sense.{TextTagSense}
+use Rattle.liquid_extend.specs.declared.text_tags.kind.TagAnswer.{TagAnswer}
+use Rattle.liquid_extend.specs.meaning.text_tags.Nodes.{tag_turn, text_nodes}
+use Rattle.liquid_extend.specs.meaning.text_tags.Sense.{TextTagSense}
 
 module _ {K Reg : Type 0} (sense : K → TextTagSense) where
   turn_hidden : (call : CallShape (TagAnswer K)) (g : Names) (v : View Reg)

@@ -2,10 +2,10 @@
 ghost use Rattle.liquid_error.specs.meaning.Told.{Gives};
 ghost use Rattle.liquid_plugins.specs.meaning.TurnOf.{turn_of};
 ghost use Rattle.liquid_filters.specs.meaning.Calls.{call_of};
-ghost use Rattle.text_tags.specs.laws.Hiding.{text_tags_hide};
-ghost use Rattle.text_tags.specs.meaning.Nodes.{tag_turn, text_nodes};
+ghost use Rattle.liquid_extend.specs.laws.text_tags.Hiding.{text_tags_hide};
+ghost use Rattle.liquid_extend.specs.meaning.text_tags.Nodes.{tag_turn, text_nodes};
 
-use crate::kind::{TagAnswer, TextTag};
+use crate::text_tags::kind::{TagAnswer, TextTag};
 use liquid_error::Error;
 use liquid_filters::FilterCall;
 use liquid_filters::call::CallShape;

@@ -5,7 +5,7 @@ use Rattle.liquid_scalar.specs.meaning.Scalar.{text}
 use Rattle.liquid_value.specs.meaning.Tree.{scalar}
 use Rattle.liquid_filters.specs.meaning.Given.{Given}
 use Rattle.liquid_filters.specs.meaning.Sense.{FilterSense}
-use Rattle.text_tags.specs.declared.kind.TagAnswer.{TagAnswer}
+use Rattle.liquid_extend.specs.declared.text_tags.kind.TagAnswer.{TagAnswer}
 
 -- the name; for each positional argument whether it may be left out; the keywords; the text that it writes, or the error
 pub record TextTagSense : Type 0 where

@@ -7,8 +7,8 @@ use Rattle.liquid_value.specs.meaning.Render.{render}
 use Rattle.liquid_value.specs.meaning.Tree.{nil}
 use Rattle.liquid_value.specs.meaning.View.{view as tree_of}
 use Rattle.liquid_filters.specs.meaning.Calls.{call_of}
-use Rattle.text_tags.proofs.TurnLemmas.{turn_refused, turn_written}
-use Rattle.text_tags.proofs.node.text_turn.Goals as goal
+use Rattle.liquid_extend.proofs.TurnLemmas.{turn_refused, turn_written}
+use Rattle.liquid_extend.proofs.text_tags.node.text_turn.Goals as goal
 
 pub returns : goal.returns
 returns g c =
