@@ -27,9 +27,9 @@ use Rattle.std.specs.Option.{unwrap_or}
 use Rattle.liquid_value.specs.meaning.Tree.{Members}
 use Rattle.page_site.specs.meaning.Items.{ItemShape, items_at}
 use Rattle.liquid_files.specs.meaning.Files.{known_in}
-use Rattle.page_site.specs.declared.data.read.Format.{Format}
-use Rattle.page_site.specs.meaning.data.Document.{DataGiven}
-use Rattle.page_site.specs.meaning.data.Merged.{merged}
+use Rattle.page_site.specs.declared.data_files.read.Format.{Format}
+use Rattle.page_site.specs.meaning.data_files.Document.{DataGiven}
+use Rattle.page_site.specs.meaning.data_files.Merged.{merged}
 use Rattle.page_site.specs.meaning.Items.{MayBe}
 use Rattle.liquid_page.specs.meaning.Command.{at_output, items_for, output_folder}
 use Rattle.liquid_page.specs.meaning.Names.{ReadsAll, ReadsOver, format_at, list_name_at, name_in, name_over, path_in, path_named, under}

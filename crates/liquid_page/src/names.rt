@@ -4,8 +4,8 @@ ghost use Rattle.std.specs.Option.{unwrap_or};
 ghost use Rattle.liquid_files.specs.meaning.Files.{known_in, reading};
 ghost use Rattle.liquid_value.specs.meaning.Tree.{no_members};
 ghost use Rattle.liquid_value.specs.meaning.View.{members_view};
-ghost use Rattle.page_site.specs.meaning.data.Document.{DataGiven};
-ghost use Rattle.page_site.specs.meaning.data.Merged.{is_equals, merged};
+ghost use Rattle.page_site.specs.meaning.data_files.Document.{DataGiven};
+ghost use Rattle.page_site.specs.meaning.data_files.Merged.{is_equals, merged};
 ghost use Rattle.page_site.specs.meaning.Items.{MayBe};
 ghost use Rattle.page_site.specs.meaning.Requested.{Follows};
 ghost use Rattle.liquid_page.specs.meaning.Names.{
@@ -27,7 +27,7 @@ use crate::fault::Fault;
 use liquid_explain::{Mark, Span, text_from, write_snippet};
 use liquid_files::Folder;
 use liquid_value::Object;
-use page_site::data::{
+use page_site::data_files::{
     DataFault, Format, SetFault, merge, read_data, set_member, under as put_under,
 };
 use page_site::read_text;

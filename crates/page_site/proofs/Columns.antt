@@ -24,7 +24,7 @@ use Rattle.std.proofs.Common.{
 }
 use Rattle.csv.specs.Records.{Row, field_at, fields_of}
 use Rattle.liquid_value.specs.meaning.Tree.{Members}
-use Rattle.page_site.specs.meaning.data.Sheet.{put_field, row_members, row_tree}
+use Rattle.page_site.specs.meaning.data_files.Sheet.{put_field, row_members, row_tree}
 
 none_left : (names : List (List ℕ)) (ms : Members) → row_members names [] ms ≡ ms
 none_left [] ms = refl

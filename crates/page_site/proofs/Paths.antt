@@ -41,8 +41,8 @@ use Rattle.liquid_value.specs.meaning.Members.{get_member, put_member}
 use Rattle.liquid_scalar.specs.meaning.Scalar.{text}
 use Rattle.liquid_value.specs.declared.value.Value.{Nil, the_lemmas}
 use Rattle.liquid_value.specs.meaning.Tree.{Tree, nil, scalar, object, Members, no_members, member}
-use Rattle.page_site.specs.declared.data.assign.SetFault.{SetFault}
-use Rattle.page_site.specs.meaning.data.Merged.{object_found, put_named, set_at}
+use Rattle.page_site.specs.declared.data_files.assign.SetFault.{SetFault}
+use Rattle.page_site.specs.meaning.data_files.Merged.{object_found, put_named, set_at}
 use Rattle.liquid_value.specs.meaning.View.{view, members_view}
 
 same_text : (xs : List ℕ) → slice_cmp nat_cmp xs xs ≡ Equal

@@ -10,7 +10,7 @@ use Rattle.liquid_value.specs.meaning.Members.{put_member}
 use Rattle.liquid_value.specs.meaning.Tree.{Tree, Items, no_items, item, Members}
 use Rattle.liquid_value.specs.meaning.View.{view, items_of}
 use Rattle.toml.specs.Data as toml
-use Rattle.page_site.specs.meaning.data.Tables.{Given, ItemsGiven, MembersGiven}
+use Rattle.page_site.specs.meaning.data_files.Tables.{Given, ItemsGiven, MembersGiven}
 
 -- one more member of those that are left
 pub member_step : (P : Members → Type 0) (k : List ℕ) (d : toml.Data) (ms : toml.Members) (found more : Members) (t : Tree)

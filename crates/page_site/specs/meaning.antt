@@ -5,4 +5,4 @@ pub mod Items
 pub mod Layouts
 pub mod Partials
 pub mod Requested
-pub mod data
+pub mod data_files

@@ -3,7 +3,7 @@ ghost use Rattle.std.specs.Prelude.{◌≡◌, ◌<◌, ℕ, IfOk, IfSome, drop,
 ghost use Rattle.liquid_value.specs.meaning.View.{members_view};
 ghost use Rattle.page_site.specs.meaning.Front.{Splits};
 
-use crate::data::{DataFault, Format, read_data};
+use crate::data_files::{DataFault, Format, read_data};
 use crate::yaml::read_lines;
 use liquid_value::Object;
 use std::alloc::{AllocError, AllocFailed, Global};

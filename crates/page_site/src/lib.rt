@@ -2,7 +2,7 @@
 //! of pages.
 #![tactic(auto)]
 
-pub mod data;
+pub mod data_files;
 pub mod engine;
 pub mod fault;
 pub mod front;

@@ -1,7 +1,7 @@
 //! Data of three formats, objects put together, and what is wrong with a text.
 use crate::set::{json_of, object_of};
 use liquid_value::Value;
-use page_site::data::{Format, merge, read_data, under};
+use page_site::data_files::{Format, merge, read_data, under};
 use rows::{Line, holds, rows_hold, same};
 use std::alloc::Global;
 use std::test::Fail;

@@ -1,7 +1,7 @@
 //! Texts that assignments set.
 use liquid_json::{from_value, object_from_str};
 use liquid_value::{Object, Value};
-use page_site::data::set_member;
+use page_site::data_files::set_member;
 use rows::{Line, rows_hold};
 use std::alloc::Global;
 use std::test::Fail;

@@ -6,10 +6,10 @@ use Rattle.std.specs.Option.{unwrap_or}
 use Rattle.std.specs.Path.{path_file_name}
 use Rattle.std.specs.Str.{bytes_eq}
 use Rattle.liquid_value.specs.meaning.Tree.{Members, object, member, no_members}
-use Rattle.page_site.specs.declared.data.read.Format.{Format}
-use Rattle.page_site.specs.declared.data.read.Format.TheVariants.{Csv, Json, Toml}
-use Rattle.page_site.specs.meaning.data.Document.{DataGiven, ends_in, format_of}
-use Rattle.page_site.specs.meaning.data.Merged.{assigned, is_equals, merged}
+use Rattle.page_site.specs.declared.data_files.read.Format.{Format}
+use Rattle.page_site.specs.declared.data_files.read.Format.TheVariants.{Csv, Json, Toml}
+use Rattle.page_site.specs.meaning.data_files.Document.{DataGiven, ends_in, format_of}
+use Rattle.page_site.specs.meaning.data_files.Merged.{assigned, is_equals, merged}
 
 -- the text that is given, if one is
 abbrev pub text_given : Option (Bor (List ℕ)) → Option (List ℕ)

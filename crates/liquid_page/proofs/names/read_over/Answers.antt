@@ -2,8 +2,8 @@ use Rattle.std.proofs.Common.{rules, ◌≡◌, ◌∙◌, ℕ, List, Option, So
 use Rattle.std.specs.Option.{unwrap_or}
 use Rattle.liquid_files.specs.meaning.Files.{known_in}
 use Rattle.liquid_value.specs.meaning.View.{members_view}
-use Rattle.page_site.specs.meaning.data.Document.{DataGiven}
-use Rattle.page_site.specs.meaning.data.Merged.{merged}
+use Rattle.page_site.specs.meaning.data_files.Document.{DataGiven}
+use Rattle.page_site.specs.meaning.data_files.Merged.{merged}
 use Rattle.page_site.specs.meaning.Items.{MayBe}
 use Rattle.liquid_page.specs.meaning.Names.{format_at, list_name_at, name_in, name_over, path_in, text_given, under}
 use Rattle.liquid_page.proofs.NameLemmas.{given_at, there_in}
