@@ -4,12 +4,12 @@ use liquid_beside::language_beside;
 use liquid_core::parser::{NoPlugin, PluginRegistry};
 use liquid_core::partials::InMemorySource;
 use liquid_core::{Error, TextSink, render_page_in};
+use liquid_extend::TextTagPlugin;
 use liquid_std::marks::Marks;
 use rows::holds;
 use std::alloc::Global;
 use std::test::Fail;
 use test_calls::Link;
-use liquid_extend::TextTagPlugin;
 
 /// Renders a text over these globals, in the standard language with the tag `link`.
 fn render(alloc: Global, text: &str, globals: &str, sink: &mut TextSink) -> Result<(), Error> {

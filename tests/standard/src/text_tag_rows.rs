@@ -4,11 +4,11 @@ use crate::page_rows::{globals_of, rows_write};
 use liquid_core::parser::{Language, NoPlugin};
 use liquid_core::partials::InMemorySource;
 use liquid_core::{Error, TextSink, render_page_in};
+use liquid_extend::TextTagPlugin;
 use rows::holds;
 use std::alloc::Global;
 use std::test::Fail;
 use test_calls::Link;
-use liquid_extend::TextTagPlugin;
 
 /// Renders a text over these globals.
 fn render(alloc: Global, text: &str, globals: &str, sink: &mut TextSink) -> Result<(), Error> {
