@@ -7,6 +7,6 @@ mod ordering;
 mod own;
 
 pub use choosing::{find, keep_where};
-pub use grouping::group_by;
+pub use grouping::{group_by, group_entries};
 pub use ordering::sort;
 pub use own::own_items;

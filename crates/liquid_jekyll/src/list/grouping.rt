@@ -44,7 +44,7 @@ fn group_by_key(alloc: Global, input: &Value, path: &Value) -> Result<Value, Err
             let items = items_of(alloc, items.as_array())?;
             let path = path.to_kstr(alloc)?;
             let entries = with_keys(alloc, items.as_slice(), path.as_str())?;
-            Ok(groups(alloc, entries.as_slice())?)
+            Ok(groups_by_text(alloc, entries.as_slice())?)
         }
         Value::Object(_) => Err(array_error(alloc, input)),
         other => Ok(other.clone()?),
@@ -52,12 +52,20 @@ fn group_by_key(alloc: Global, input: &Value, path: &Value) -> Result<Value, Err
 }
 
 /// Returns the groups of entries whose keys have the same text.
-fn groups(alloc: Global, entries: &[Entry<'_>]) -> Result<Value, AllocError>
-    ensures { IfOk result (λ v. tree_of v ≡ list_of (Spec.groups (map entry_view entries.now))) }
+fn groups_by_text(alloc: Global, entries: &[Entry<'_>]) -> Result<Value, AllocError>
+    ensures { IfOk result (λ v. tree_of v ≡ list_of (Spec.groups_by_text (map entry_view entries.now))) }
 {
     let entries = with_texts(alloc, entries)?;
-    let keys = first_keys(alloc, entries.as_slice())?;
-    groups_of(alloc, keys.as_slice(), entries.as_slice())
+    group_entries(alloc, entries.as_slice())
+}
+
+/// Returns the groups of the items with the same key, in the order of their first items. A group is an object of `name`, the
+/// key, `items` and `size`. An `Err` means out of memory.
+pub fn group_entries(alloc: Global, entries: &[Entry<'_>]) -> Result<Value, AllocError>
+    ensures { IfOk result (λ v. tree_of v ≡ list_of (Spec.groups (map entry_view entries.now))) }
+{
+    let keys = first_keys(alloc, entries)?;
+    groups_of(alloc, keys.as_slice(), entries)
 }
 
 /// Returns the keys that are not the same as one before.

@@ -26,13 +26,17 @@ group es key =
     (member (codes "items") (list_of (items_with key es))
     (member (codes "name") key (member (codes "size") (size_value (length (items_with key es))) no_members)))
 
--- the groups of entries whose keys have the same text, in the order of their first ones
+-- the groups of entries with the same key, in the order of their first ones
 abbrev pub groups : List (Tree × Tree) → List Tree
-groups es = map (group (with_texts es)) (keys_of (distinct (with_texts es)))
+groups es = map (group es) (keys_of (distinct es))
+
+-- the groups of entries whose keys have the same text
+abbrev pub groups_by_text : List (Tree × Tree) → List Tree
+groups_by_text es = groups (with_texts es)
 
 -- the own items of an array in groups; an object is an error, and any other input stays
 abbrev pub grouped_by : Tree → Tree → Result Tree Refusal
-grouped_by (array ts) path = ok_then (keyed (render path) (own_items ts)) (λ es. Ok (list_of (groups es)))
+grouped_by (array ts) path = ok_then (keyed (render path) (own_items ts)) (λ es. Ok (list_of (groups_by_text es)))
 grouped_by (object ms) path = Err (array_expected (object ms))
 grouped_by other path = Ok other
 
