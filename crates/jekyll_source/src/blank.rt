@@ -81,7 +81,7 @@ pub(crate) fn go_after(
 }
 
 /// Returns the whitespace that a tag takes from the rest of the pieces, the last one first.
-pub(crate) fn taken_white<'t>(is_left_out: bool, rest: &[(Piece<'t>, bool)]) -> &'t str
+pub(crate) fn take_white<'t>(is_left_out: bool, rest: &[(Piece<'t>, bool)]) -> &'t str
     ensures { result.now ≡ Spec.taken_white is_left_out (map marked_view (reverse rest.now)) }
 {
     match rest.last() {

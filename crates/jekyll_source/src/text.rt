@@ -4,7 +4,7 @@ ghost use Rattle.jekyll_source.specs.meaning.Blank.{written_in};
 ghost use Rattle.jekyll_source.specs.meaning.Pieces as Spec;
 ghost use Rattle.jekyll_source.specs.steps.Parts.{marked_view};
 
-use crate::blank::{go_after, innermost, mark_blank, taken_white};
+use crate::blank::{go_after, innermost, mark_blank, take_white};
 use crate::pieces::{Piece, push_piece, split_pieces};
 use std::alloc::{AllocError, Global};
 
@@ -44,7 +44,7 @@ fn write_marked(
     while let Some((piece, begins_blank)) = marked.pop() {
         let is_left_out = innermost(&blocks);
         go_after(&mut blocks, piece, begins_blank)?;
-        let white = taken_white(innermost(&blocks), marked.as_slice());
+        let white = take_white(innermost(&blocks), marked.as_slice());
         push_piece(alloc, &mut out, piece, is_left_out, white)?;
     }
     Ok(out)

@@ -96,11 +96,4 @@ where
             None => Ok(None),
         }
     }
-
-    /// Returns the count of the readings.
-    pub fn into_readings(self) -> Readings
-        ensures { result ≡ self.readings }
-    {
-        self.readings
-    }
 }

@@ -159,7 +159,7 @@ pub(crate) fn with_long_option(word: &str, options: Options) -> Option<Options>
 }
 
 /// Returns the option whose word comes after this one, if it isn't chosen yet.
-pub(crate) fn awaited_by(word: &str, choices: Choices<'_>) -> Option<Awaited>
+pub(crate) fn find_awaited(word: &str, choices: Choices<'_>) -> Option<Awaited>
     ensures { result ≡ awaited_by word.now (choices_of choices.entry) }
 {
     if word == "--turns" && choices.options.max_turns.is_none() {
@@ -292,6 +292,6 @@ pub(crate) fn long_command<'w>(
     }
     match with_long_option(word, choices.options) {
         Some(options) => long_command(Choices { options, ..choices }, paths, None, rest),
-        None => long_command(choices, paths, Some(awaited_by(word, choices)?), rest),
+        None => long_command(choices, paths, Some(find_awaited(word, choices)?), rest),
     }
 }

@@ -116,9 +116,9 @@ fn span_of_failed<F: ParseFilter, T: TagReflection + Drop, B: ParseBlock<F>>(
 /// Returns the name of the variable that an error is about, and that of its index, if that is not there.
 fn variable_of<'m>(message: Message<'m>) -> Option<(&'m str, Option<&'m str>)> {
     let (path, index) = if message.is("Unknown variable") {
-        (message.requested(), None)
+        (message.requested_name(), None)
     } else if message.is("Unknown index") {
-        (message.detail("variable")?, Some(message.requested()))
+        (message.detail("variable")?, Some(message.requested_name()))
     } else {
         return None;
     };

@@ -50,7 +50,7 @@ impl<'m> Message<'m> {
     }
 
     /// Returns the name that is asked for.
-    pub(crate) fn requested(self) -> &'m str {
+    pub(crate) fn requested_name(self) -> &'m str {
         for key in REQUESTED {
             if let Some(name) = self.detail(key) {
                 return name;

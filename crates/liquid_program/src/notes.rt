@@ -108,7 +108,7 @@ fn collect_notes(
         message,
         lines: String::new(alloc),
         last_lines: String::new(alloc),
-        names: NearNames::new(alloc, message.requested())?,
+        names: NearNames::new(alloc, message.requested_name())?,
     };
     if options.standard {
         let language = standard_language(alloc)?;

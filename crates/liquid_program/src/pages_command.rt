@@ -14,7 +14,7 @@ ghost use Rattle.liquid_program.specs.meaning.PagesCommand.{
 };
 
 use crate::command::{Awaited, Choices, NO_OPTIONS, Options, is_verb, plainly};
-use crate::long_command::{awaited_by, is_place, with_long_option, with_word};
+use crate::long_command::{find_awaited, is_place, with_long_option, with_word};
 use std::path::Path;
 
 /// A command for several pages: how they are rendered, the ending of the files that are partials, the folder that the
@@ -141,7 +141,7 @@ fn pages_in<'w>(
     }
     match with_long_option(word, choices.options) {
         Some(options) => pages_in(Choices { options, ..choices }, None, rest),
-        None => match awaited_by(word, choices) {
+        None => match find_awaited(word, choices) {
             Some(option) => pages_in(choices, Some(option), rest),
             None => None,
         },

@@ -98,7 +98,7 @@ pub(crate) fn find_foreign<F: ParseFilter, T: TagReflection + Drop, B: ParseBloc
     message: Message<'_>,
     language: &Language<F, T, B>,
 ) -> Option<&'static str> {
-    let word = message.requested();
+    let word = message.requested_name();
     if message.is("Unknown variable") {
         return foreign_value(word);
     }

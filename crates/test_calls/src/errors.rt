@@ -11,7 +11,7 @@ fn prints(alloc: Global, error: &Error, text: &str) -> bool {
 }
 
 /// Returns an error of this text.
-fn refused(alloc: Global) -> liquid_error::Result<u8> {
+fn make_refusal(alloc: Global) -> liquid_error::Result<u8> {
     Error::with_msg(alloc, "a").into_err()
 }
 
@@ -32,7 +32,7 @@ fn shows(alloc: Global, answer: liquid_error::Result<u8>, text: &str, cause: &st
 }
 
 /// Returns a text that is made.
-fn made(alloc: Global) -> Result<String, AllocError> {
+fn make_text(alloc: Global) -> Result<String, AllocError> {
     String::from_str(alloc, "b")
 }
 
@@ -42,31 +42,41 @@ fn texts_are_chained(alloc: Global) -> bool {
     let starved: liquid_error::Result<u8> = Err(Error::Memory);
     let memory = "liquid: out of memory\n";
     shows(alloc, starved.replace(alloc, "b"), memory, "")
-        && shows(alloc, refused(alloc).chain(alloc, "b"), new, "liquid: a\n")
         && shows(
             alloc,
-            refused(alloc).lossy_chain(alloc, "b"),
+            make_refusal(alloc).chain(alloc, "b"),
+            new,
+            "liquid: a\n",
+        )
+        && shows(
+            alloc,
+            make_refusal(alloc).lossy_chain(alloc, "b"),
             new,
             "liquid: a\n\n",
         )
-        && shows(alloc, refused(alloc).replace(alloc, "b"), new, "")
+        && shows(alloc, make_refusal(alloc).replace(alloc, "b"), new, "")
 }
 
 /// Returns `true` if a new error has the old one as its cause, or replaces it, if a call makes its text.
 fn made_texts_are_chained(alloc: Global) -> bool {
     let new = "liquid: b\n";
-    let text = || made(alloc);
+    let text = || make_text(alloc);
     shows(
         alloc,
-        refused(alloc).chain_with(alloc, text),
+        make_refusal(alloc).chain_with(alloc, text),
         new,
         "liquid: a\n",
     ) && shows(
         alloc,
-        refused(alloc).lossy_chain_with(alloc, text),
+        make_refusal(alloc).lossy_chain_with(alloc, text),
         new,
         "liquid: a\n\n",
-    ) && shows(alloc, refused(alloc).replace_with(alloc, text), new, "")
+    ) && shows(
+        alloc,
+        make_refusal(alloc).replace_with(alloc, text),
+        new,
+        "",
+    )
 }
 
 /// Returns `true` if a context is added whose name and value are given.
@@ -74,7 +84,7 @@ fn has_context(alloc: Global) -> bool {
     let with = "liquid: a\n  with:\n    k=v\n";
     shows(
         alloc,
-        refused(alloc).context_key("k").value(alloc, "v"),
+        make_refusal(alloc).context_key("k").value(alloc, "v"),
         with,
         "",
     )
@@ -82,21 +92,21 @@ fn has_context(alloc: Global) -> bool {
 
 /// Returns `true` if a context is added whose name or value is made.
 fn has_made_contexts(alloc: Global) -> bool {
-    let made = || made(alloc);
+    let made = || make_text(alloc);
     let with = "liquid: a\n  with:\n    b=b\n";
     shows(
         alloc,
-        Key::value_with(refused(alloc).context_key("b"), alloc, made),
+        Key::value_with(make_refusal(alloc).context_key("b"), alloc, made),
         with,
         "",
     ) && shows(
         alloc,
-        refused(alloc).context_key_with(made).value(alloc, "b"),
+        make_refusal(alloc).context_key_with(made).value(alloc, "b"),
         with,
         "",
     ) && shows(
         alloc,
-        FnKey::value_with(refused(alloc).context_key_with(made), made),
+        FnKey::value_with(make_refusal(alloc).context_key_with(made), made),
         with,
         "",
     )

@@ -10,7 +10,7 @@ use std::alloc::{AllocError, Global};
 pub(crate) type Base = BuiltRuntime<(), ()>;
 
 /// Returns a runtime with globals that are numbers.
-pub(crate) fn based(
+pub(crate) fn build_base(
     alloc: Global,
     globals: &[(&'static str, i64)],
     lenient: bool,
@@ -46,7 +46,7 @@ fn holds_under<S: Scopes, B: Body>(alloc: Global, scopes: &mut S, frame: Frame, 
 }
 
 /// Returns `true` if a frame was made, and a body holds under it.
-pub(crate) fn framed<S: Scopes, B: Body>(
+pub(crate) fn holds_under<S: Scopes, B: Body>(
     alloc: Global,
     scopes: &mut S,
     frame: Option<Frame>,
@@ -95,6 +95,6 @@ pub(crate) fn holds_over_both<B: Body>(
     lenient: bool,
     body: &B,
 ) -> bool {
-    is_chained(alloc, based(alloc, globals, lenient), body)
-        && is_flat(alloc, based(alloc, globals, lenient), body)
+    is_chained(alloc, build_base(alloc, globals, lenient), body)
+        && is_flat(alloc, build_base(alloc, globals, lenient), body)
 }

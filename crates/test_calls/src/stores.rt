@@ -217,7 +217,7 @@ where
     T: ParseTag<F>,
     B: ParseBlock<F>,
 {
-    match shared(alloc, language).zip(Rc::new(alloc, Cell::new(0)).ok()) {
+    match share_language(alloc, language).zip(Rc::new(alloc, Cell::new(0)).ok()) {
         Some((language, asked)) => {
             answers::<_, F::Filter, T::Node, B::Node>(
                 alloc,
@@ -235,7 +235,7 @@ where
 }
 
 /// Returns a language to be shared, or `None` if memory runs out.
-fn shared<F, T, B>(
+fn share_language<F, T, B>(
     alloc: Global,
     language: Result<Language<F, T, B>, AllocError>,
 ) -> Option<Rc<Language<F, T, B>>>

@@ -5,13 +5,13 @@ use liquid_views::{ValueView, array_of, object_of, scalar_of};
 use std::alloc::Global;
 
 /// Returns the value of an array that is built of the items of a list.
-fn copied(alloc: Global, list: &Vec<i64>) -> Option<Value> {
+fn copy_list(alloc: Global, list: &Vec<i64>) -> Option<Value> {
     array_of(alloc, list).ok()?.to_value(alloc).ok()
 }
 
 /// Returns `true` if an array that is built of the items of a list is as the list.
 fn is_copied(alloc: Global, list: &Vec<i64>) -> bool {
-    match copied(alloc, list).zip(list.to_value(alloc).ok()) {
+    match copy_list(alloc, list).zip(list.to_value(alloc).ok()) {
         Some((copied, value)) => copied == value,
         None => false,
     }

@@ -138,7 +138,7 @@ impl<F: ParseFilter> ParseBlock<F> for Blocks {
         plan: BlockNode,
         body: BlockBody<'_>,
     ) -> Result<BlockNode, Error> {
-        finished(alloc, plan, body)
+        finish_plan(alloc, plan, body)
     }
 }
 
@@ -160,7 +160,7 @@ fn plain_block(alloc: Global, block: Blocks, tokens: TagTokenIter<'_>) -> Result
 }
 
 /// Returns the node of a plan. A plan of a text takes the text of its body.
-fn finished(alloc: Global, plan: BlockNode, body: BlockBody<'_>) -> Result<BlockNode, Error>
+fn finish_plan(alloc: Global, plan: BlockNode, body: BlockBody<'_>) -> Result<BlockNode, Error>
     ensures { Gives block_of result (finished (block_of plan) (body_of body.entry)) }
 {
     match (plan, body) {
@@ -263,7 +263,7 @@ impl<F: ParseFilter> ParseBlock<F> for HostileBlocks {
     ) -> Result<HostileBlockNode, Error> {
         match plan {
             HostileBlockNode::Plain(plan) => {
-                Ok(HostileBlockNode::Plain(finished(alloc, plan, body)?))
+                Ok(HostileBlockNode::Plain(finish_plan(alloc, plan, body)?))
             }
             HostileBlockNode::Far => Ok(HostileBlockNode::Far),
         }

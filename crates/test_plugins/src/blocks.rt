@@ -100,7 +100,7 @@ impl<V: Fresh> Renderable<V> for BlockNode {
             (BlockNode::Swap, Stage::Second) => Ok(Turn::Body(0, Frame::None, None)),
             (BlockNode::Raw(text), Stage::First) => Ok(Turn::Text(text.clone()?)),
             (BlockNode::With(name, expression), Stage::First) => {
-                let frame = bound(alloc, name, &**expression, &*runtime)?;
+                let frame = bind_name(alloc, name, &**expression, &*runtime)?;
                 Ok(Turn::Body(0, frame, None))
             }
             (BlockNode::Glob, Stage::First) => Ok(Turn::Body(0, Frame::Global, None)),
@@ -129,7 +129,7 @@ fn next_stage(stage: Stage) -> Stage
 }
 
 /// Returns a stack frame of one name, with the value of the expression.
-fn bound<R: Runtime>(
+fn bind_name<R: Runtime>(
     alloc: Global,
     name: &String,
     expression: &Expression,

@@ -69,11 +69,11 @@ impl FilterParameters for AppendParameters {
     fn from_args(alloc: Global, arguments: FilterArguments<'_>) -> Result<AppendParameters, Error> {
         let mut positional = arguments.positional;
         if positional.len() != 1 || arguments.keyword.len() != 0 {
-            return Err(unexpected_arguments(alloc));
+            return Err(unexpected_arguments_error(alloc));
         }
         match positional.pop() {
             Some(value) => Ok(AppendParameters { value }),
-            None => Err(unexpected_arguments(alloc)),
+            None => Err(unexpected_arguments_error(alloc)),
         }
     }
 
@@ -108,7 +108,7 @@ impl Filter for Append {
     ) -> Result<Value, Error> {
         // evaluated here, so that the value is not copied
         let value = self.parameters.value.evaluate(alloc, runtime)?;
-        let joined = joined(alloc, input.as_view(), value.as_view())?;
+        let joined = join_values(alloc, input.as_view(), value.as_view())?;
         Ok(joined)
     }
 
@@ -118,19 +118,19 @@ impl Filter for Append {
 }
 
 /// Returns the joined texts of two values. Those of texts and numbers have a known length, and need no writer.
-fn joined(alloc: Global, front: &Value, back: &Value) -> Result<Value, AllocError>
+fn join_values(alloc: Global, front: &Value, back: &Value) -> Result<Value, AllocError>
     ensures { IfOk result (λ v. tree_of v ≡ scalar (text (render (tree_of front.now) ++ render (tree_of back.now)))) }
 {
     let mut digits = itoa::Buffer::new();
     let text = match (front, back) {
         (Value::Scalar(ScalarOf::Str(front)), Value::Scalar(ScalarOf::Str(back))) => {
-            joined_texts(alloc, front, back)?
+            join_texts(alloc, front, back)?
         }
         (Value::Scalar(ScalarOf::Str(front)), Value::Scalar(ScalarOf::Integer(back))) => {
-            joined_texts(alloc, front, digits.format(*back))?
+            join_texts(alloc, front, digits.format(*back))?
         }
         (Value::Scalar(ScalarOf::Integer(front)), Value::Scalar(ScalarOf::Str(back))) => {
-            joined_texts(alloc, digits.format(*front), back)?
+            join_texts(alloc, digits.format(*front), back)?
         }
         _ => {
             let front = ValueRender::new(front);
@@ -142,7 +142,7 @@ fn joined(alloc: Global, front: &Value, back: &Value) -> Result<Value, AllocErro
 }
 
 /// Returns a text, and another one after it.
-fn joined_texts(alloc: Global, front: &str, back: &str) -> Result<String, AllocError>
+fn join_texts(alloc: Global, front: &str, back: &str) -> Result<String, AllocError>
     ensures { IfOk result (λ text. string_bytes text ≡ front.now ++ back.now) }
 {
     let mut text = String::with_capacity(alloc, front.len().saturating_add(back.len()))?;
@@ -244,7 +244,7 @@ impl ParseFilter for Filters {
                 if arguments.positional.len() == 0 && arguments.keyword.len() == 0 {
                     Ok(AnyFilter::Fail)
                 } else {
-                    Err(unexpected_arguments(alloc))
+                    Err(unexpected_arguments_error(alloc))
                 }
             }
         }
@@ -252,7 +252,7 @@ impl ParseFilter for Filters {
 }
 
 /// Returns the error for arguments that a filter doesn't take.
-fn unexpected_arguments(alloc: Global) -> Error
+fn unexpected_arguments_error(alloc: Global) -> Error
     ensures { IfSome (told result) (λ refusal. refusal ≡ unexpected_arguments) }
 {
     Error::with_msg(alloc, "Unexpected arguments")

@@ -8,7 +8,6 @@ pub mod counted;
 pub mod counting_source;
 pub mod dripping;
 pub mod filters;
-pub mod forms;
 pub mod hostile;
 pub mod languages;
 mod laws;

@@ -135,7 +135,7 @@ impl<V: Fresh> Renderable<V> for LeakyTagNode {
             LeakyTagNode::Plain(tag) => tag.turn(alloc, progress, runtime),
             LeakyTagNode::Leak(name, expression) => {
                 let old = assign(alloc, name, &**expression, runtime)?;
-                Ok(Turn::Text(rendered(alloc, old)?))
+                Ok(Turn::Text(render_old(alloc, old)?))
             }
         }
     }
@@ -166,7 +166,7 @@ fn assign<R: Runtime>(
 }
 
 /// Returns the rendered text of a value, empty if there is none.
-fn rendered(alloc: Global, value: Option<Value>) -> Result<String, AllocError>
+fn render_old(alloc: Global, value: Option<Value>) -> Result<String, AllocError>
     ensures { IfOk result (λ text. string_bytes text ≡ render_old (option_map tree_of value)) }
 {
     match value {
