@@ -46,7 +46,7 @@ fn holds_under<S: Scopes, B: Body>(alloc: Global, scopes: &mut S, frame: Frame, 
 }
 
 /// Returns `true` if a frame was made, and a body holds under it.
-pub(crate) fn holds_under<S: Scopes, B: Body>(
+pub(crate) fn holds_if_made<S: Scopes, B: Body>(
     alloc: Global,
     scopes: &mut S,
     frame: Option<Frame>,

@@ -1,7 +1,7 @@
 //! Each call of scopes, over both forms.
 ghost use Rattle.std.specs.Prelude.{◌≡◌};
 
-use crate::framed::{Body, holds_over_both, holds_under};
+use crate::framed::{Body, holds_if_made, holds_over_both};
 use crate::histories;
 use crate::numbers::{is_text, numbers, text};
 use liquid_error::Error;
@@ -16,7 +16,7 @@ struct Calls;
 
 impl Body for Calls {
     fn holds<S: Scopes>(&self, alloc: Global, scopes: &mut S) -> bool {
-        holds_under(alloc, scopes, page(alloc).ok(), &UnderPage)
+        holds_if_made(alloc, scopes, page(alloc).ok(), &UnderPage)
     }
 }
 
