@@ -1,20 +1,19 @@
 //! The items for which a condition holds.
-ghost use Rattle.std.specs.Prelude.{◌≡◌, map, string_bytes, IfOk, OnOk};
-ghost use Rattle.std.specs.FinMap.{empty, insert};
+ghost use Rattle.std.specs.Prelude.{map};
 ghost use Rattle.liquid_error.specs.meaning.Told.{Gives};
 ghost use Rattle.liquid_value.specs.meaning.View.{view as tree_of};
 ghost use Rattle.liquid_runtime.specs.meaning.Erased.{erase};
-ghost use Rattle.liquid_runtime.specs.meaning.Maps.{names_of};
 ghost use Rattle.jekyll_expressions.specs.meaning.Items as Spec;
 ghost use Rattle.jekyll_expressions.specs.meaning.Kinds.{call_of};
 
 use crate::kinds::{ExpressionCall, ExpressionKind};
+use crate::names::one_name;
 use crate::read_only::ReadOnly;
 use liquid_error::Error;
 use liquid_runtime::{Runtime, StackFrame};
 use liquid_std::conditions::{Equality, holds};
-use liquid_value::{Object, Value};
-use std::alloc::{AllocError, Global};
+use liquid_value::Value;
+use std::alloc::Global;
 
 /// Returns the items for which the condition of a filter holds, or the first of them. Without one, `find_exp` returns nil.
 pub(crate) fn choose_items<R: Runtime>(
@@ -77,29 +76,4 @@ fn item_holds<R: Runtime>(
     let names = one_name(alloc, call.name.as_str(), item)?;
     let frame = StackFrame::new(ReadOnly::new(runtime)?, names);
     holds(alloc, Equality::Same, &call.condition, &frame)
-}
-
-/// Returns the object in which only this name has a value.
-fn one_name(alloc: Global, name: &str, value: &Value) -> Result<Object, AllocError>
-    ensures { IfOk result (λ names. names_of names ≡ insert empty name.now (tree_of value.now)) }
-{
-    let mut names = no_names(alloc);
-    bind(&mut names, String::from_str(alloc, name)?, value.clone()?)?;
-    Ok(names)
-}
-
-#[tactic(auto, using(liquid_runtime::proofs::Objects::changed_objects))]
-fn no_names(alloc: Global) -> Object
-    ensures { names_of result ≡ empty }
-{
-    Object::new(alloc)
-}
-
-/// Gives a name a value.
-#[tactic(auto, using(liquid_runtime::proofs::Objects::changed_objects))]
-fn bind(names: &mut Object, name: String, value: Value) -> Result<(), AllocError>
-    ensures { OnOk result (names_of names.new ≡ insert (names_of names.old) (string_bytes name) (tree_of value)) }
-{
-    drop(names.insert(name, value)?);
-    Ok(())
 }

@@ -1,13 +1,18 @@
-//! Jekyll's filters with a condition, `where_exp` and `find_exp`, beside its other filters.
+//! Jekyll's filters with an expression in a text, `where_exp`, `find_exp` and `group_by_exp`, beside its other filters.
 #![tactic(auto)]
 
+mod chains;
+pub mod grouping;
+mod groups;
 mod items;
 pub mod kinds;
+mod names;
 pub mod plugin;
 mod read_only;
 mod reading;
 pub mod table;
 
+pub use grouping::{GroupCall, GroupPlugin};
 pub use kinds::{ExpressionCall, ExpressionKind};
 pub use plugin::{PageFilter, PagePlugin};
 pub use table::filters;

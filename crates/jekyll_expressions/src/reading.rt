@@ -1,17 +1,16 @@
-//! Reading the arguments of a filter with a condition.
+//! Reading the arguments of a filter with an expression: text literals, and the condition in one.
 ghost use Rattle.std.specs.Prelude.{◌≡◌, option_map, string_bytes, IfOk, IfSome, Result};
 ghost use Rattle.std.specs.Result.{result_ok};
 ghost use Rattle.liquid_error.specs.meaning.Refusal.{Refusal};
 ghost use Rattle.liquid_error.specs.meaning.Told.{Gives, told};
 ghost use Rattle.liquid_value.specs.meaning.View.{view as tree_of};
 ghost use Rattle.liquid_plugins.specs.meaning.ExpressionOf.{expression_of};
-ghost use Rattle.liquid_std.specs.declared.conditions.condition.ConditionShape.{ConditionShape};
 ghost use Rattle.liquid_std.specs.meaning.conditions.Conditions.{condition_of};
 ghost use Rattle.jekyll_expressions.specs.meaning.Reading as Spec;
 
 use liquid_error::Error;
 use liquid_parser::Tag;
-use liquid_plugins::Expression;
+use liquid_plugins::{Expression, Meant};
 use liquid_scalar::ScalarOf;
 use liquid_std::conditions::Condition;
 use liquid_std::conditions::read_condition::read_condition;
@@ -74,12 +73,12 @@ fn read_tag(alloc: Global, source: &str) -> Result<Condition, Error>
     }
 }
 
-/// Returns the condition, if one was read. Fails only if memory ran out.
-fn if_read(read: Result<Condition, Error>) -> Result<Option<Condition>, AllocError>
-    ensures { IfOk result (λ c. (m : Result ConditionShape Refusal) → Gives condition_of read m → option_map condition_of c ≡ result_ok m) }
+/// Returns what was read, if it was read. Fails only if memory ran out.
+pub(crate) fn if_read<T: Meant + Drop>(read: Result<T, Error>) -> Result<Option<T>, AllocError>
+    ensures { IfOk result (λ o. (m : Result T.Shape Refusal) → Gives T.shape read m → option_map T.shape o ≡ result_ok m) }
 {
     match read {
-        Ok(condition) => Ok(Some(condition)),
+        Ok(it) => Ok(Some(it)),
         Err(error) => if error.is_memory() {
             Err(AllocError)
         } else {
@@ -88,14 +87,14 @@ fn if_read(read: Result<Condition, Error>) -> Result<Option<Condition>, AllocErr
     }
 }
 
-/// Returns the error for a string that is not a condition.
-fn text_found(alloc: Global, text: String) -> Error
+/// Returns the error for a string that is not what it has to be.
+pub(crate) fn text_found(alloc: Global, text: String) -> Error
     ensures { IfSome (told result) (λ r. r ≡ Spec.text_found (string_bytes text)) }
 {
     expression_expected(alloc, &Value::Scalar(ScalarOf::Str(text)))
 }
 
-/// Returns the error for an argument that is not a condition.
+/// Returns the error for an argument that is not what it has to be.
 fn expression_expected(alloc: Global, value: &Value) -> Error
     ensures { IfSome (told result) (λ r. r ≡ Spec.expression_expected (tree_of value.now)) }
 {
