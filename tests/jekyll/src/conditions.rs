@@ -1,4 +1,4 @@
-//! Rows of Jekyll's filters with a condition.
+//! Rows of Jekyll's filters with a condition, and of the one with a chain.
 use crate::answers::{answered_among, is_shown};
 use liquid_error::Error;
 use liquid_filters::json_text::json;
@@ -60,9 +60,29 @@ const ROWS: &str =
 ["find_exp", null, ["v", "v == 'x'"], {}, "null"]
 ["find_exp", "abc", ["v", "false"], {}, "\"abc\""]
 ["where_exp", ["", "a"], ["v", "v == empty"], {}, "[\"\"]"]
-["where_exp", [null, false], ["v", "v == false"], {}, "[false]"]"#;
+["where_exp", [null, false], ["v", "v == false"], {}, "[false]"]
+["group_by_exp", [{"i": 0, "tags": ["a", "b"], "title": "---"}], ["i", "i.i | plus: 1 | times: n"], {"n": 0, "s": "", "p": "k", "site": {"title": "a"}}, "[{\"items\":[{\"i\":0,\"tags\":[\"a\",\"b\"],\"title\":\"---\"}],\"name\":0,\"size\":1}]"]
+["group_by_exp", [{"i": 0, "k": ["1", 2], "t": false, "a": {"b": "q"}}, {"i": 1, "k": ["1", 2], "tags": ["a", "b"], "title": "C++ & Ruby"}, {"i": 2, "k": ["a"], "t": ""}, {"i": 3, "k": ["a", "b"], "t": true, "tags": "a b"}, {"i": 4, "k": ["x"], "t": "", "a": {}, "tags": "a"}], ["i", "s"], {"n": 0, "s": "", "p": "t", "site": {"title": "a"}}, "[{\"items\":[{\"a\":{\"b\":\"q\"},\"i\":0,\"k\":[\"1\",2],\"t\":false},{\"i\":1,\"k\":[\"1\",2],\"tags\":[\"a\",\"b\"],\"title\":\"C++ & Ruby\"},{\"i\":2,\"k\":[\"a\"],\"t\":\"\"},{\"i\":3,\"k\":[\"a\",\"b\"],\"t\":true,\"tags\":\"a b\"},{\"a\":{},\"i\":4,\"k\":[\"x\"],\"t\":\"\",\"tags\":\"a\"}],\"name\":\"\",\"size\":5}]"]
+["group_by_exp", [{"i": 0, "k": 6}, {"i": 1, "k": null, "t": "x", "a": {}}, {"i": 2, "k": 9, "a": {"b": 2}, "title": "日本 語"}, {"i": 3, "k": 4}, {"i": 4, "k": 3, "t": null, "tags": "a"}, {"i": 5, "k": 3, "a": null}], ["i", "i.k | to_integer | at_most: 3"], {"n": 1, "s": "", "p": "t", "site": {"title": "b"}}, "[{\"items\":[{\"i\":0,\"k\":6},{\"a\":{\"b\":2},\"i\":2,\"k\":9,\"title\":\"日本 語\"},{\"i\":3,\"k\":4},{\"i\":4,\"k\":3,\"t\":null,\"tags\":\"a\"},{\"a\":null,\"i\":5,\"k\":3}],\"name\":3,\"size\":5},{\"items\":[{\"a\":{},\"i\":1,\"k\":null,\"t\":\"x\"}],\"name\":0,\"size\":1}]"]
+["group_by_exp", [{"i": 0, "k": "2019-05-06 07:08:09 +0000", "a": null, "title": "---"}, {"i": 1, "k": "2020-01-02 00:00:00 +0000"}, {"i": 2, "k": "2019-05-06 07:08:09 +0000"}, {"i": 3, "k": "2019-05-06 07:08:09 +0000"}, {"i": 4, "k": "2021-01-01 00:00:00 +0000", "t": null, "tags": "a b"}, {"i": 5, "k": "2021-01-01 00:00:00 +0000", "t": false, "title": "Hello, World!"}], ["post", "post.title | slugify"], {"n": 1, "s": "b", "p": "i", "site": {"title": "b"}}, "[{\"items\":[{\"a\":null,\"i\":0,\"k\":\"2019-05-06 07:08:09 +0000\",\"title\":\"---\"}],\"name\":\"\",\"size\":1},{\"items\":[{\"i\":1,\"k\":\"2020-01-02 00:00:00 +0000\"},{\"i\":2,\"k\":\"2019-05-06 07:08:09 +0000\"},{\"i\":3,\"k\":\"2019-05-06 07:08:09 +0000\"},{\"i\":4,\"k\":\"2021-01-01 00:00:00 +0000\",\"t\":null,\"tags\":\"a b\"}],\"name\":null,\"size\":4},{\"items\":[{\"i\":5,\"k\":\"2021-01-01 00:00:00 +0000\",\"t\":false,\"title\":\"Hello, World!\"}],\"name\":\"hello-world\",\"size\":1}]"]
+["group_by_exp", [{"i": 0, "k": 2, "t": "x", "a": {"b": 0}, "tags": ["a"]}], ["i", "i.k | upcase"], {"n": 2, "s": "x", "p": "k", "site": {"title": "a"}}, "[{\"items\":[{\"a\":{\"b\":0},\"i\":0,\"k\":2,\"t\":\"x\",\"tags\":[\"a\"]}],\"name\":\"2\",\"size\":1}]"]
+["group_by_exp", [{"i": 0, "k": true}], ["post", "post.a.b"], {"n": 2, "s": "x", "p": "i", "site": {"title": "a"}}, "[{\"items\":[{\"i\":0,\"k\":true}],\"name\":null,\"size\":1}]"]
+["group_by_exp", [{"i": 0, "k": "b", "t": true, "title": "---"}, {"i": 1, "k": "B"}], ["i", "i.k | upcase"], {"n": 1, "s": "b", "p": "t", "site": {"title": "a"}}, "[{\"items\":[{\"i\":0,\"k\":\"b\",\"t\":true,\"title\":\"---\"},{\"i\":1,\"k\":\"B\"}],\"name\":\"B\",\"size\":2}]"]
+["group_by_exp", [{"i": 0, "k": "a", "tags": ["b", "c"]}, {"i": 1, "k": "a", "t": null}, {"i": 2, "k": 2, "t": null, "a": null, "title": "日本 語"}], ["i", "i[p]"], {"n": 3, "s": "x", "p": "k", "site": {"title": "a"}}, "[{\"items\":[{\"i\":0,\"k\":\"a\",\"tags\":[\"b\",\"c\"]},{\"i\":1,\"k\":\"a\",\"t\":null}],\"name\":\"a\",\"size\":2},{\"items\":[{\"a\":null,\"i\":2,\"k\":2,\"t\":null,\"title\":\"日本 語\"}],\"name\":2,\"size\":1}]"]
+["group_by_exp", [{"i": 0, "k": "B", "tags": "a", "title": "  lead and trail  "}, {"i": 1, "t": "x", "a": null}, {"i": 2, "k": "a", "t": "x", "a": {"b": "p"}}, {"i": 3, "a": {}}, {"i": 4, "k": "Z", "t": "", "tags": ["a", "b"]}, {"i": 5, "k": "C", "a": null, "tags": []}], ["i", "s"], {"n": 0, "s": "b", "p": "k", "site": {"title": "a"}}, "[{\"items\":[{\"i\":0,\"k\":\"B\",\"tags\":\"a\",\"title\":\"  lead and trail  \"},{\"a\":null,\"i\":1,\"t\":\"x\"},{\"a\":{\"b\":\"p\"},\"i\":2,\"k\":\"a\",\"t\":\"x\"},{\"a\":{},\"i\":3},{\"i\":4,\"k\":\"Z\",\"t\":\"\",\"tags\":[\"a\",\"b\"]},{\"a\":null,\"i\":5,\"k\":\"C\",\"tags\":[]}],\"name\":\"b\",\"size\":6}]"]
+["group_by_exp", [{"i": 0, "k": "Z", "title": "---"}, {"i": 1, "a": null}], ["i", "i.k | date: '%Y'"], {"n": 1, "s": "b", "p": "k", "site": {"title": "a"}}, "[{\"items\":[{\"i\":0,\"k\":\"Z\",\"title\":\"---\"}],\"name\":\"Z\",\"size\":1},{\"items\":[{\"a\":null,\"i\":1}],\"name\":null,\"size\":1}]"]
+["group_by_exp", [{"i": 0, "k": ["x"], "tags": "a", "title": "Crème brûlée"}, {"i": 1, "k": ["1", 2]}, {"i": 2, "k": ["a", "b"], "a": {}}, {"i": 3, "tags": ["a"]}, {"i": 4, "k": ["x"], "tags": ["a"]}, {"i": 5, "k": ["x"], "title": "C++ & Ruby"}], ["i", "i.title | slugify"], {"n": 3, "s": "a", "p": "t", "site": {"title": "a"}}, "[{\"items\":[{\"i\":0,\"k\":[\"x\"],\"tags\":\"a\",\"title\":\"Crème brûlée\"}],\"name\":\"crème-brûlée\",\"size\":1},{\"items\":[{\"i\":1,\"k\":[\"1\",2]},{\"a\":{},\"i\":2,\"k\":[\"a\",\"b\"]},{\"i\":3,\"tags\":[\"a\"]},{\"i\":4,\"k\":[\"x\"],\"tags\":[\"a\"]}],\"name\":null,\"size\":4},{\"items\":[{\"i\":5,\"k\":[\"x\"],\"title\":\"C++ & Ruby\"}],\"name\":\"c-ruby\",\"size\":1}]"]
+["group_by_exp", [1, "1", 1], ["v", "v"], {}, "[{\"items\":[1,1],\"name\":1,\"size\":2},{\"items\":[\"1\"],\"name\":\"1\",\"size\":1}]"]
+["group_by_exp", [1, 2, 3], ["v", "v | modulo: two"], {"v": 9, "two": 2}, "[{\"items\":[1,3],\"name\":1,\"size\":2},{\"items\":[2],\"name\":0,\"size\":1}]"]
+["group_by_exp", [{"site": 1}], ["site", "site.site"], {"site": {"site": 2}}, "[{\"items\":[{\"site\":1}],\"name\":1,\"size\":1}]"]
+["group_by_exp", [[1, 2], [3], [4, 4, 5]], ["v", "v | group_by_exp: 'w', 'w' | size"], {}, "[{\"items\":[[1,2],[4,4,5]],\"name\":2,\"size\":2},{\"items\":[[3]],\"name\":1,\"size\":1}]"]
+["group_by_exp", [[1, 2], [0]], ["v", "v | where_exp: 'w', 'w == 1' | first"], {}, "[{\"items\":[[1,2]],\"name\":1,\"size\":1},{\"items\":[[0]],\"name\":null,\"size\":1}]"]
+["group_by_exp", [null, false, null], ["v", "v"], {}, "[{\"items\":[null,null],\"name\":null,\"size\":2},{\"items\":[false],\"name\":false,\"size\":1}]"]
+["group_by_exp", [], ["v", "v"], {}, "[]"]
+["group_by_exp", null, ["v", "v"], {}, "null"]
+["group_by_exp", "abc", ["v", "v"], {}, "\"abc\""]"#;
 
-/// The same for arguments that are refused, with the text of the error.
+/// The same for arguments and inputs that are refused, with the text of the error.
 const REFUSED: &str =
     r#"["find_exp", "a\\b", ["i", "== 1"], {"n": 3, "s": "a", "p": "t", "site": {"title": "a"}}, "liquid: Expression expected\n  with:\n    found=\"== 1\"\n"]
 ["find_exp", [{"i": 0, "k": true, "t": true}], ["i", "i.k | upcase"], {"n": 2, "s": "a", "p": "i", "site": {"title": "b"}}, "liquid: Expression expected\n  with:\n    found=\"i.k | upcase\"\n"]
@@ -80,7 +100,23 @@ const REFUSED: &str =
 ["find_exp", [1], ["i", ""], {}, "liquid: Expression expected\n  with:\n    found=\"\"\n"]
 ["find_exp", [1], ["i", "99999999999999999999"], {}, "liquid: Expression expected\n  with:\n    found=\"99999999999999999999\"\n"]
 ["find_exp", [1], ["i"], {}, "liquid: Unexpected arguments\n"]
-["where_exp", [1], ["i", "i", "i"], {}, "liquid: Unexpected arguments\n"]"#;
+["where_exp", [1], ["i", "i", "i"], {}, "liquid: Unexpected arguments\n"]
+["group_by_exp", {"c0": {"i": 0, "k": -3}, "a1": {"i": 1, "k": 5}}, ["n", "n.k | downcase | slice: 0"], {"n": 3, "s": "", "p": "i", "site": {"title": "b"}}, "liquid: Array expected\n  with:\n    found={\"a1\": i1k5, \"c0\": i0k-3, }\n"]
+["group_by_exp", {}, ["i", "i.k, 1"], {"n": 2, "s": "a", "p": "i", "site": {"title": "a"}}, "liquid: Expression expected\n  with:\n    found=\"i.k, 1\"\n"]
+["group_by_exp", [], ["i", "| upcase"], {"n": 2, "s": "", "p": "t", "site": {"title": "a"}}, "liquid: Expression expected\n  with:\n    found=\"| upcase\"\n"]
+["group_by_exp", [{"i": 0}, {"i": 1, "t": true}, {"i": 2, "a": {"b": "q"}}, {"i": 3, "k": null, "t": false}, {"i": 4, "k": "12", "tags": "a b"}, {"i": 5, "k": "-1"}], ["i", "i.k i.t"], {"n": 1, "s": "a", "p": "t", "site": {"title": "a"}}, "liquid: Expression expected\n  with:\n    found=\"i.k i.t\"\n"]
+["group_by_exp", "2020-12-01", ["i", ""], {"n": 3, "s": "b", "p": "t", "site": {"title": "b"}}, "liquid: Expression expected\n  with:\n    found=\"\"\n"]
+["group_by_exp", [{"i": 0, "k": "2020-01-02 00:00:00 +0000", "t": "x"}, {"i": 1, "k": "2020-01-02"}], ["i", "i.k == 1"], {"n": 2, "s": "", "p": "i", "site": {"title": "a"}}, "liquid: Expression expected\n  with:\n    found=\"i.k == 1\"\n"]
+["group_by_exp", [{"i": 0, "k": false, "tags": ["b", "c"]}, {"i": 1, "k": true, "t": false, "a": {}}], ["i", "i.k |"], {"n": 0, "s": "a", "p": "t", "site": {"title": "b"}}, "liquid: Expression expected\n  with:\n    found=\"i.k |\"\n"]
+["group_by_exp", null, ["i", "i | group_by_exp: a"], {"y": 185, "site": {"pages": [{"path": "about.md", "url": "/about/"}]}, "seo_tag": {"title": "T"}}, "liquid: Expression expected\n  with:\n    found=\"i | group_by_exp: a\"\n"]
+["group_by_exp", {"é": "<style>q</style><i>z"}, ["i", "i.t"], {"n": 1, "s": "b", "p": "i", "site": {"title": "a"}}, "liquid: Array expected\n  with:\n    found={\"é\": <style>q</style><i>z, }\n"]
+["group_by_exp", [1], [1, "i"], {}, "liquid: Expression expected\n  with:\n    found=1\n"]
+["group_by_exp", [1], ["i", null], {}, "liquid: Expression expected\n  with:\n    found=nil\n"]
+["group_by_exp", [1], ["i", "i %}{% echo i"], {}, "liquid: Expression expected\n  with:\n    found=\"i %}{% echo i\"\n"]
+["group_by_exp", [1], ["i", "(1..2)"], {}, "liquid: Expression expected\n  with:\n    found=\"(1..2)\"\n"]
+["group_by_exp", [1], ["i", "i | nofilter"], {}, "liquid: Expression expected\n  with:\n    found=\"i | nofilter\"\n"]
+["group_by_exp", [1], ["i"], {}, "liquid: Unexpected arguments\n"]
+["group_by_exp", [1], ["i", "i", "i"], {}, "liquid: Unexpected arguments\n"]"#;
 
 /// Returns `true` if the filter of a row returns what the row says.
 fn is_chosen(alloc: Global, row: &Line) -> bool {

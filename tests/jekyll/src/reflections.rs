@@ -16,6 +16,7 @@ const FILTERS: &str = r#"["absolute_url", "Converts to a URL of the site.", "", 
 ["find", "Returns the first item whose key fits a value.", "key (needed): The name of a property, or names with dots between them.; value (needed): What the key has to fit.", ""]
 ["find_exp", "Returns the first item for which a condition holds.", "item (needed): The name of an item in the condition, as a string literal.; condition (needed): The condition, as a string literal.", ""]
 ["group_by", "Groups the items by a key.", "key (needed): The name of a property, or names with dots between them.", ""]
+["group_by_exp", "Groups the items for which a chain has the same value.", "item (needed): The name of an item in the chain, as a string literal.; chain (needed): The chain, as a string literal.", ""]
 ["inspect", "Converts the input to JSON, escaped for XML.", "", ""]
 ["jsonify", "Converts the input to JSON.", "", ""]
 ["markdownify", "Returns what the host has rendered of a string in Markdown.", "", ""]
