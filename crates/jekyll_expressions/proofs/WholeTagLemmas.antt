@@ -14,9 +14,7 @@ use Rattle.liquid_parser.specs.meaning.Handed.{Tokens, handed}
 use Rattle.liquid_parser.specs.meaning.Plugins.{AreTokens}
 use Rattle.liquid_parser.specs.meaning.Reading.{refused_at}
 use Rattle.liquid_parser.specs.meaning.WholeTag.{GivesTag, Refuses, WholeTag}
-use Rattle.liquid_std.specs.declared.conditions.condition.ConditionShape.{ConditionShape}
-use Rattle.liquid_std.specs.meaning.conditions.ConditionsGiven.{condition_given}
-use Rattle.jekyll_expressions.specs.meaning.Reading.{condition_of_tag, only_tag, tag_read}
+use Rattle.jekyll_expressions.specs.meaning.Reading.{of_tag, only_tag, tag_read}
 
 -- the text is this tag, or no tag at all
 abbrev Fits : List ℕ → Option token.Tag → Type 0
@@ -40,26 +38,26 @@ fits s (raw x ∷ es) c only = not_whole s (raw x ∷ es) only refl
 fits s (expression chain x ∷ es) c only = not_whole s (expression chain x ∷ es) only refl
 fits s (invalid x ∷ es) c only = not_whole s (invalid x ∷ es) only refl
 
-module _ (s : List ℕ) where
+module _ {A : Type 0} (given : Tokens → Result A Refusal) (s : List ℕ) where
   -- what the text is read as, by the tag that it is
-  abbrev read_as : Option token.Tag → Result ConditionShape Refusal
-  read_as o = ok_then (ok_or o (refused_at s (codes "Invalid liquid") s)) (condition_of_tag s)
+  abbrev read_as : Option token.Tag → Result A Refusal
+  read_as o = ok_then (ok_or o (refused_at s (codes "Invalid liquid") s)) (of_tag given s)
 
   -- the tokens of the tag are read, or the refusal is that of the text
-  abbrev pub IsRead : Result Tag Error → Result ConditionShape Refusal → Type 0
-  IsRead (Ok tag) read = (ts : Tokens) × AreTokens tag.tokens ts × (read ≡ condition_given ts)
+  abbrev pub IsRead : Result Tag Error → Result A Refusal → Type 0
+  IsRead (Ok tag) read = (ts : Tokens) × AreTokens tag.tokens ts × (read ≡ given ts)
   IsRead (Err e) read = IfSome (told e) (λ r. read ≡ Err r)
 
   read_by : (o : Option token.Tag) → Fits s o → (result : Result Tag Error) → ((t : token.Tag) → TagRule s [] t → GivesTag result s t)
       → (¬ (WholeTag s) → Refuses result (refused_at s (codes "Invalid liquid") s)) → IsRead result (read_as o)
   read_by (Some t) fit (Ok tag) gives none =
-      let g = gives t fit in (handed s t, g.1.tokens_are, ap (λ r. ok_then r (λ _. condition_given (handed s t))) g.0)
+      let g = gives t fit in (handed s t, g.1.tokens_are, ap (λ r. ok_then r (λ _. given (handed s t))) g.0)
   read_by (Some t) fit (Err e) gives none =
-      if_some_weaker (told e) (λ r q. ap (λ r. ok_then r (λ _. condition_given (handed s t))) q) (gives t fit)
+      if_some_weaker (told e) (λ r q. ap (λ r. ok_then r (λ _. given (handed s t))) q) (gives t fit)
   read_by None fit (Ok tag) gives none = absurd (none fit)
   read_by None fit (Err e) gives none = if_some_weaker (told e) (λ r q. ap (λ x. Err x) (sym q)) (none fit)
 
   pub tag_is_read : (result : Result Tag Error) → ((t : token.Tag) → TagRule s [] t → GivesTag result s t)
-      → (¬ (WholeTag s) → Refuses result (refused_at s (codes "Invalid liquid") s)) → IsRead result (tag_read s)
+      → (¬ (WholeTag s) → Refuses result (refused_at s (codes "Invalid liquid") s)) → IsRead result (tag_read given s)
   tag_is_read result gives none =
       let c = cover_of s in read_by (only_tag c.elements) (fits s c.elements c.cover c.only) result gives none

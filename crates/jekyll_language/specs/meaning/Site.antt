@@ -6,18 +6,16 @@ use Rattle.liquid_plugins.specs.meaning.ArgumentsOf.{Arguments}
 use Rattle.liquid_plugins.specs.meaning.Chain.{FilterMeaning}
 use Rattle.liquid_parser.specs.meaning.Lang.{Lang}
 use Rattle.liquid_parser.specs.meaning.Plugins.{registry_of}
-use Rattle.jekyll_expressions.specs.declared.plugin.PageFilterShape.{PageFilterShape}
-use Rattle.jekyll_expressions.specs.declared.plugin.PagePlugin.{PagePlugin}
-use Rattle.jekyll_expressions.specs.meaning.Plugins.{page_calls, page_made}
+use Rattle.jekyll_expressions.specs.meaning.Plugins.{OfPage, ShapeOfPage, page_calls, page_made}
 use Rattle.jekyll_expressions.specs.meaning.Table.{page_filters}
 use Rattle.jekyll_language.specs.meaning.Languages.{tags_and_blocks}
 use Rattle.jekyll_language.specs.meaning.Plugins.{BlockNode, BlockPlan, TagNode}
 
 abbrev pub SiteFilter : Type 0
-SiteFilter = PagePlugin
+SiteFilter = OfPage
 
 abbrev pub FilterNode : Type 0
-FilterNode = PageFilterShape
+FilterNode = ShapeOfPage
 
 -- what arguments make of a filter, and what a filter does
 abbrev pub filter_made : SiteFilter → Arguments → Result FilterNode Refusal
