@@ -11,14 +11,13 @@ ghost use Rattle.liquid_jekyll.specs.meaning.list.Own.{own};
 ghost use Rattle.jekyll_expressions.specs.meaning.Groups as Spec;
 
 use crate::chains::read_chain;
-use crate::groups::groups;
 use crate::names::one_name;
 use crate::read_only::ReadOnly;
 use crate::reading::text_literal;
 use liquid_error::Error;
 use liquid_filters::list::keys::Entry;
 use liquid_filters::value::errors::{array_error, unexpected_arguments_error};
-use liquid_jekyll::list::own_items;
+use liquid_jekyll::list::{group_entries, own_items};
 use liquid_plugins::{
     Bytes, ChainMark, Expression, Filter, FilterArguments, FilterChain, FilterReflection, Meant,
     ParameterReflection, ParseFilter, PluginRegistry,
@@ -177,7 +176,7 @@ fn group_items<X: Filter, R: Runtime>(
         (map (λ r. tree_of r.now) items.now)) }
 {
     let entries = with_keys(alloc, call, items, runtime)?;
-    Ok(groups(alloc, entries.as_slice())?)
+    Ok(group_entries(alloc, entries.as_slice())?)
 }
 
 /// Returns each item with its key.

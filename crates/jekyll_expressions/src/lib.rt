@@ -3,7 +3,6 @@
 
 mod chains;
 pub mod grouping;
-mod groups;
 mod items;
 pub mod kinds;
 mod names;

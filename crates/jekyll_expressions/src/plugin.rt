@@ -24,7 +24,7 @@ pub enum PluginOver<P> {
     Group(GroupPlugin<P>),
 }
 
-/// The same with its arguments, where `X` are the filters of the chains.
+/// Such a filter with its arguments, where `X` are the filters of the chains.
 #[derive(Drop)]
 pub enum FilterOver<X> {
     Plain(JekyllFilter),

@@ -1,5 +1,5 @@
 -- The filter that groups items by the value of a chain.
-use Rattle.std.specs.Prelude.{ℕ, List, [], ◌∷◌, codes, map, string_bytes, Result, Ok, Err}
+use Rattle.std.specs.Prelude.{ℕ, List, [], ◌∷◌, codes, string_bytes, Result, Ok, Err}
 use Rattle.liquid_error.specs.meaning.Refusal.{Refusal, ok_then}
 use Rattle.liquid_value.specs.meaning.Tree.{Tree, array, object}
 use Rattle.liquid_runtime.specs.meaning.Erased.{Erased}
@@ -8,11 +8,10 @@ use Rattle.liquid_plugins.specs.meaning.Chain.{FilterMeaning, chain_value}
 use Rattle.liquid_plugins.specs.meaning.Expression.{ExpressionShape}
 use Rattle.liquid_plugins.specs.meaning.ExpressionOf.{chain_of}
 use Rattle.liquid_parser.specs.meaning.Lang.{Filters}
-use Rattle.liquid_filters.specs.meaning.list.Choices.{distinct, keys_of}
 use Rattle.liquid_filters.specs.meaning.list.Lists.{list_of}
 use Rattle.liquid_filters.specs.meaning.value.Errors.{array_expected, unexpected_arguments}
 use Rattle.liquid_filters.specs.meaning.value.Items.{own_items}
-use Rattle.liquid_jekyll.specs.meaning.list.Grouping.{group}
+use Rattle.liquid_jekyll.specs.meaning.list.Grouping.{groups}
 use Rattle.jekyll_expressions.specs.declared.grouping.GroupCall.{GroupCall}
 use Rattle.jekyll_expressions.specs.declared.grouping.GroupCallShape.{GroupCallShape}
 use Rattle.jekyll_expressions.specs.meaning.Chains.{chain_read}
@@ -40,10 +39,6 @@ module _ {F : Type 0} (filters : Filters F) where
 
   abbrev pub call_made : Arguments → Result (GroupCallShape F) Refusal
   call_made arguments = call_of_two arguments.positional arguments.keyword
-
--- the groups of items with the same key, each item beside its key, in the order of their first items
-abbrev pub groups : List (Tree × Tree) → List Tree
-groups es = map (group es) (keys_of (distinct es))
 
 module _ {F : Type 0} (m : FilterMeaning F) where
   -- the key of an item: the value of the chain where the item has its name
