@@ -1,1 +1,2 @@
 pub mod WholeTagLemmas
+pub mod ChainLemmas
