@@ -1,2 +1,1 @@
 pub mod WholeTagLemmas
-pub mod ChainLemmas

@@ -1,9 +1,10 @@
 -- A string that is one tag, and what it is read as.
-use Rattle.std.proofs.Common.{◌≡◌, ℕ, List, [], ◌∷◌, Option, Some, None, Result, Ok, Err, refl, sym, ap, ◌∙◌, subst, append-nil}
-use Rattle.std.specs.Prelude.{codes, is_some, IfSome, T, ok_or}
+use Rattle.std.proofs.Common.{◌≡◌, ℕ, List, [], ◌∷◌, Option, Some, None, Result, Ok, Err, refl, sym, ap, ◌∙◌, subst, append-nil, option_map}
+use Rattle.std.specs.Prelude.{codes, is_some, IfOk, IfSome, T, ok_or}
+use Rattle.std.specs.Result.{result_ok}
 use Rattle.liquid_error.specs.declared.error.Error.{Error}
 use Rattle.liquid_error.specs.meaning.Refusal.{Refusal, ok_then}
-use Rattle.liquid_error.specs.meaning.Told.{told}
+use Rattle.liquid_error.specs.meaning.Told.{Gives, told}
 use Rattle.liquid_grammar.specs.meaning.Cover.{Cover, Element, done, next, raw, tag_element, expression, invalid}
 use Rattle.liquid_grammar.specs.meaning.Tokens as token
 use Rattle.liquid_grammar.specs.meaning.Tokens.{TagRule}
@@ -61,3 +62,12 @@ module _ {A : Type 0} (given : Tokens → Result A Refusal) (s : List ℕ) where
       → (¬ (WholeTag s) → Refuses result (refused_at s (codes "Invalid liquid") s)) → IsRead result (tag_read given s)
   tag_is_read result gives none =
       let c = cover_of s in read_by (only_tag c.elements) (fits s c.elements c.cover c.only) result gives none
+
+-- what was read of a source, if it was read, by the string that a tag has after its name
+pub read_of_source : {X M E : Type 0} (of : X → M) (given : Tokens → Result M Refusal) (tag : List ℕ → List ℕ) (inside source : List ℕ)
+    (read : Result X Error) (result : Result (Option X) E) → source ≡ tag inside → Gives of read (tag_read given source)
+    → IfOk result (λ o. (m : Result M Refusal) → Gives of read m → option_map of o ≡ result_ok m)
+    → IfOk result (λ o. option_map of o ≡ result_ok (tag_read given (tag inside)))
+read_of_source of given tag inside source read (Ok o) same gives each =
+    each (tag_read given (tag inside)) (subst (λ s. Gives of read (tag_read given s)) same gives)
+read_of_source of given tag inside source read (Err e) same gives each = each

@@ -6,6 +6,7 @@ ghost use Rattle.liquid_error.specs.meaning.Told.{Gives, told};
 ghost use Rattle.liquid_value.specs.meaning.View.{view as tree_of};
 ghost use Rattle.liquid_plugins.specs.meaning.ExpressionOf.{expression_of};
 ghost use Rattle.liquid_std.specs.meaning.conditions.Conditions.{condition_of};
+ghost use Rattle.liquid_std.specs.meaning.conditions.ConditionsGiven.{condition_given};
 ghost use Rattle.jekyll_expressions.specs.meaning.Reading as Spec;
 
 use liquid_error::Error;
@@ -65,7 +66,7 @@ fn if_tag(alloc: Global, text: &str) -> Result<String, AllocError>
 
 /// Reads a tag whose tokens are a condition, and returns the first error otherwise.
 fn read_tag(alloc: Global, source: &str) -> Result<Condition, Error>
-    ensures { Gives condition_of result (Spec.tag_read source.now) }
+    ensures { Gives condition_of result (Spec.tag_read condition_given source.now) }
 {
     match Tag::new(alloc, source) {
         Ok(tag) => read_condition(alloc, tag.into_tokens()),
