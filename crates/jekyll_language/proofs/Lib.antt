@@ -1,1 +1,2 @@
 mod SandboxLemmas
+pub mod WholeTagLemmas

@@ -1,6 +1,8 @@
-//! The language of Jekyll's sites: the tags and blocks of standard Liquid, and Jekyll's own beside them.
+//! The language of Jekyll's sites: the tags and blocks of standard Liquid, and Jekyll's own beside them; and all of Jekyll's
+//! filters.
 #![tactic(auto)]
 
+pub mod expressions;
 mod languages;
 pub mod laws;
 mod site;

@@ -3,8 +3,8 @@ ghost use Rattle.std.specs.Prelude.{◌≡◌, IfOk};
 ghost use Rattle.jekyll_language.specs.meaning.Languages.{meaning_of};
 ghost use Rattle.jekyll_language.specs.meaning.Site.{filter_made, site_language};
 
+use crate::expressions::{PagePlugin, filters};
 use crate::languages::{SiteBlocks, SiteTags, language};
-use jekyll_expressions::{PagePlugin, filters};
 use liquid_core::Language;
 use liquid_dates::DateTime;
 use std::alloc::{AllocError, Global};

@@ -1,5 +1,5 @@
 //! What the tables share: a row's filter is called with the row's values, and its answer is compared.
-use jekyll_expressions::filters;
+use jekyll_language::expressions::filters;
 use liquid_error::Error;
 use liquid_filters::json_text::json;
 use liquid_json::to_value;

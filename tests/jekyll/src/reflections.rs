@@ -1,6 +1,6 @@
 //! What Jekyll's filters, tags and blocks say about themselves.
 use descriptions::{block_holds, filter_holds, tag_holds};
-use jekyll_expressions::filters;
+use jekyll_language::expressions::filters;
 use jekyll_tags::{JekyllBlocks, JekyllLinks, JekyllTags};
 use rows::{Line, holds};
 use std::test::Fail;

@@ -6,8 +6,8 @@ use Rattle.liquid_plugins.specs.meaning.ArgumentsOf.{Arguments}
 use Rattle.liquid_plugins.specs.meaning.Chain.{FilterMeaning}
 use Rattle.liquid_parser.specs.meaning.Lang.{Lang}
 use Rattle.liquid_parser.specs.meaning.Plugins.{registry_of}
-use Rattle.jekyll_expressions.specs.meaning.Plugins.{OfPage, ShapeOfPage, page_calls, page_made}
-use Rattle.jekyll_expressions.specs.meaning.Table.{page_filters}
+use Rattle.jekyll_language.specs.meaning.expressions.Plugins.{OfPage, ShapeOfPage, page_calls, page_made}
+use Rattle.jekyll_language.specs.meaning.expressions.Table.{page_filters}
 use Rattle.jekyll_language.specs.meaning.Languages.{tags_and_blocks}
 use Rattle.jekyll_language.specs.meaning.Plugins.{BlockNode, BlockPlan, TagNode}
 
